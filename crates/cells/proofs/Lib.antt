@@ -1,0 +1,4 @@
+pub mod Noting
+pub mod Following
+pub mod Bounds
+pub mod Telling

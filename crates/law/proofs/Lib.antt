@@ -1,0 +1,3 @@
+pub mod Single
+pub mod Reorder
+pub mod Example

@@ -1,0 +1,4 @@
+pub mod Entries
+pub mod Trees
+pub mod Order
+pub mod Bites

@@ -1,0 +1,23 @@
+-- No trail of an event passes the 200 entries of the list.
+use Prim.Native.Nat.{ℕ}
+use native.Mathlib.Omega.{arith}
+use Rattle.cells.specs.Runs.{Short}
+use Rattle.cells.proofs.Bounds.{short-ret, short-refuse, short-look, short-change, short-cond, short-bind, shorter}
+use Rattle.plan.proofs.Lengths.{short-plan}
+use Rattle.perform.proofs.Lengths.{short-perform}
+use Rattle.machine.specs.Events.{launch, cycle}
+
+pub short-launch : (t a : ℕ) → Short 200 (launch t a)
+short-launch t a =
+    shorter 200 (
+    short-look {n = 6} (λ s. short-cond _ (
+    short-change {n = 5} (short-change {n = 4} (short-change {n = 3} (short-change {n = 2} (short-change {n = 1} (short-change {n = 0} short-ret))))))
+    short-refuse)) (omega arith)
+
+pub short-cycle : (size t : ℕ) → Short 200 (cycle size t)
+short-cycle size t =
+    shorter 200 (
+    short-look {n = 9} (λ s. short-cond _ short-ret (
+    short-look {n = 8} (λ d. short-cond _ (
+    short-look {n = 7} (λ p. short-bind {n = 4} {k = 3} (short-plan size _) (λ a. short-perform t a)))
+    short-ret)))) (omega arith)

@@ -1,0 +1,251 @@
+// The machine: 32 tasks, RAM and flags between a card of inputs and a card of outputs, and the events that change it.
+ghost use mathlib.Core.Path.{_≡_};
+ghost use mathlib.Core.Bool.{Bool};
+ghost use mathlib.Core.List.{List};
+ghost use Prim.Native.Nat.{ℕ, _<_, _≤_};
+ghost use lib.ListN.{length};
+ghost use Rattle.cells.specs.declared.Cell.{Cell as CellOf};
+ghost use Rattle.cells.specs.Runs.{Finds, Goes};
+ghost use Rattle.std.specs.declared.result.Result.the-variants.{Ok};
+ghost use Rattle.store.specs.View.{level, view, new-cells};
+ghost use Rattle.machine.specs.Calls.{cells-of, early-refusal, Admits, Ends, Did, asked};
+ghost use Rattle.machine.specs.Events.{plain, ready-at, launch, cycle, place, feed, start, turn};
+use cards::Card;
+use cells::Cell;
+use cells::Kind;
+use cells::Trail;
+use law::Entry;
+use perform::Answer;
+use perform::perform_action;
+use plan::plan_command;
+use store::Board;
+use store::Line;
+use store::State;
+use store::read_cell;
+use store::write_line;
+use store::write_ram;
+use words::Reason;
+use words::Refusal;
+use words::Site;
+
+// An answer, and how many entries the trail has.
+#[derive(Clone, Copy)]
+pub struct Answered {
+    pub answer: Answer,
+    pub count: usize,
+}
+
+// A refusal, and how many entries the trail has.
+#[derive(Clone, Copy)]
+pub struct Refused {
+    pub refusal: Refusal,
+    pub count: usize,
+}
+
+pub struct Machine<I, O> {
+    board: Board,
+    inputs: I,
+    outputs: O,
+}
+
+fn plain_refusal(reason: Reason) -> Refusal
+    ensures { λ r. ⌜ r ≡ plain reason ⌝ }
+{
+    Refusal {
+        reason,
+        task: 0,
+        place: 0,
+        operand: 0,
+    }
+}
+
+fn early(reason: Reason) -> Refused
+    ensures { λ r. ⌜ r ≡ early-refusal reason ⌝ }
+{
+    Refused {
+        refusal: plain_refusal(reason),
+        count: 0,
+    }
+}
+
+// The tests that come first in every event: RAM's length, whether what the event names is there, and the room for the trail.
+fn admit(size: usize, there: bool, room: usize) -> Result<(), Refused>
+    ensures { λ r. ⌜ Admits r size room there ⌝ }
+{
+    if size < 256 || size > 65536 {
+        return Err(early(Reason::RamLength));
+    }
+    if !there {
+        return Err(early(Reason::NoSuchThing));
+    }
+    if room < 200 {
+        return Err(early(Reason::ShortTrail));
+    }
+    Ok(())
+}
+
+// Makes a task ready at an address.
+fn make_ready(board: &mut Board, t: u8, address: u16, trail: &mut Trail) -> Answer
+    requires { ⌜ t < 32 ⌝ }
+    ensures { λ r. ⌜ ((is os : List Bool) (ws : List ℕ) → Goes (ready-at t address) (view (now (board .entry)) is os ws) (now (trail .entry)) r (view (now (board .exit)) is os ws) (now (trail .exit))) ⌝ }
+{
+    board.write_state(t, State::Ready, trail);
+    board.write_place(t, address, trail);
+    board.write_delay(t, 0, trail);
+    board.write_register(t, 0x77, 0, trail);
+    board.write_register(t, 0x78, 0, trail);
+    board.write_register(t, 0x7B, 0, trail);
+    Answer::Done
+}
+
+fn launch_task(board: &mut Board, t: u8, address: u16, trail: &mut Trail) -> Result<Answer, Refusal>
+    requires { ⌜ t < 32 ⌝ }
+    ensures { λ r. ⌜ ((is os : List Bool) (ws : List ℕ) → Ends (launch t address) (view (now (board .entry)) is os ws) (now (trail .entry)) r (view (now (board .exit)) is os ws) (now (trail .exit))) ⌝ }
+{
+    match board.read_state(t, trail) {
+        State::Idle => Ok(make_ready(board, t, address, trail)),
+        State::Ready => Err(plain_refusal(Reason::NotIdle)),
+    }
+}
+
+impl<I: Card, O: Card> Machine<I, O> {
+    // A machine between two cards: its tasks idle, their numbers zero, its flags off.
+    pub fn new(inputs: I, outputs: O) -> Machine<I, O>
+        ensures { λ r. ⌜ ((ws : List ℕ) (x : CellOf) → cells-of (I·Card .lines) (O·Card .lines) r ws x ≡ new-cells (I·Card .lines inputs) (O·Card .lines outputs) ws x) ⌝ }
+    {
+        Machine {
+            board: Board::new(),
+            inputs,
+            outputs,
+        }
+    }
+
+    // Asks what a cell holds.
+    pub fn cell(&self, ram: &[u16], kind: Kind, task: u16, number: u16) -> Result<u16, Refusal>
+        ensures { λ r. ⌜ r ≡ asked (length (now (ram .entry))) kind task number (cells-of (I·Card .lines) (O·Card .lines) (now (self .entry)) (now (ram .entry))) ⌝ }
+    {
+        if ram.len() < 256 || ram.len() > 65536 {
+            return Err(plain_refusal(Reason::RamLength));
+        }
+        match Cell::new(ram.len(), kind, task, number) {
+            Some(cell) => Ok(read_cell(&self.board, &self.inputs, &self.outputs, ram, cell)),
+            None => Err(plain_refusal(Reason::NoSuchThing)),
+        }
+    }
+
+    // Puts a word into RAM.
+    pub fn place(
+        &mut self,
+        ram: &mut [u16],
+        address: u16,
+        word: u16,
+        trail: &mut [Entry<Cell>],
+    ) -> Result<Answered, Refused>
+        ensures { λ r. ⌜ Did (place (length (now (ram .entry))) (length (now (trail .entry))) address word) (cells-of (I·Card .lines) (O·Card .lines) (now (self .entry)) (now (ram .entry))) (now (trail .entry)) r (cells-of (I·Card .lines) (O·Card .lines) (now (self .exit)) (now (ram .exit))) (now (trail .exit)) ⌝ }
+    {
+        admit(ram.len(), (address as usize) < ram.len(), trail.len())?;
+        let mut notes = Trail::new(trail);
+        write_ram(ram, address, word, &mut notes);
+        Ok(Answered {
+            answer: Answer::Done,
+            count: notes.count(),
+        })
+    }
+
+    // Shows the machine a new level on an input line.
+    pub fn feed(
+        &mut self,
+        ram: &[u16],
+        line: u16,
+        on: bool,
+        trail: &mut [Entry<Cell>],
+    ) -> Result<Answered, Refused>
+        ensures { λ r. ⌜ Did (feed (length (now (ram .entry))) (length (now (trail .entry))) line on) (cells-of (I·Card .lines) (O·Card .lines) (now (self .entry)) (now (ram .entry))) (now (trail .entry)) r (cells-of (I·Card .lines) (O·Card .lines) (now (self .exit)) (now (ram .entry))) (now (trail .exit)) ⌝ }
+    {
+        admit(ram.len(), line < 256, trail.len())?;
+        let mut notes = Trail::new(trail);
+        write_line(
+            &mut self.board,
+            &mut self.inputs,
+            &mut self.outputs,
+            Line::Input(line as u8),
+            on,
+            &mut notes,
+        );
+        Ok(Answered {
+            answer: Answer::Done,
+            count: notes.count(),
+        })
+    }
+
+    // Makes an idle task ready at an address.
+    pub fn start(
+        &mut self,
+        ram: &[u16],
+        task: u16,
+        address: u16,
+        trail: &mut [Entry<Cell>],
+    ) -> Result<Answered, Refused>
+        ensures { λ r. ⌜ Did (start (length (now (ram .entry))) (length (now (trail .entry))) task address) (cells-of (I·Card .lines) (O·Card .lines) (now (self .entry)) (now (ram .entry))) (now (trail .entry)) r (cells-of (I·Card .lines) (O·Card .lines) (now (self .exit)) (now (ram .entry))) (now (trail .exit)) ⌝ }
+    {
+        admit(ram.len(), task < 32, trail.len())?;
+        let mut notes = Trail::new(trail);
+        match launch_task(&mut self.board, task as u8, address, &mut notes) {
+            Ok(answer) => Ok(Answered {
+                answer,
+                count: notes.count(),
+            }),
+            Err(refusal) => Err(Refused {
+                refusal,
+                count: notes.count(),
+            }),
+        }
+    }
+
+    // One command of a task that is ready and has no delay.
+    fn cycle(&mut self, ram: &[u16], t: u8, trail: &mut Trail) -> Result<Answer, Refusal>
+        requires { ⌜ t < 32 ⌝ }
+        ensures { λ r. ⌜ Ends (cycle (length (now (ram .entry))) t) (cells-of (I·Card .lines) (O·Card .lines) (now (self .entry)) (now (ram .entry))) (now (trail .entry)) r (cells-of (I·Card .lines) (O·Card .lines) (now (self .exit)) (now (ram .entry))) (now (trail .exit)) ⌝ }
+    {
+        match self.board.read_state(t, trail) {
+            State::Idle => return Ok(Answer::Idle),
+            State::Ready => {}
+        }
+        if self.board.read_delay(t, trail) != 0 {
+            return Ok(Answer::Waiting);
+        }
+        let place = self.board.read_place(t, trail);
+        let action = plan_command(&self.board, ram, Site { task: t, place }, trail)?;
+        Ok(perform_action(
+            &mut self.board,
+            &mut self.inputs,
+            &mut self.outputs,
+            t,
+            action,
+            trail,
+        ))
+    }
+
+    // Gives a task its turn.
+    pub fn turn(
+        &mut self,
+        ram: &mut [u16],
+        task: u16,
+        trail: &mut [Entry<Cell>],
+    ) -> Result<Answered, Refused>
+        ensures { λ r. ⌜ Did (turn (length (now (ram .entry))) (length (now (trail .entry))) task) (cells-of (I·Card .lines) (O·Card .lines) (now (self .entry)) (now (ram .entry))) (now (trail .entry)) r (cells-of (I·Card .lines) (O·Card .lines) (now (self .exit)) (now (ram .exit))) (now (trail .exit)) ⌝ }
+    {
+        admit(ram.len(), task < 32, trail.len())?;
+        let mut notes = Trail::new(trail);
+        match self.cycle(ram, task as u8, &mut notes) {
+            Ok(answer) => Ok(Answered {
+                answer,
+                count: notes.count(),
+            }),
+            Err(refusal) => Err(Refused {
+                refusal,
+                count: notes.count(),
+            }),
+        }
+    }
+}
