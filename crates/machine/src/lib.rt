@@ -42,6 +42,7 @@ pub struct Refused {
     pub count: usize,
 }
 
+#[derive(Drop)]
 pub struct Machine<I, O> {
     board: Board,
     inputs: I,
