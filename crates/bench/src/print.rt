@@ -1,12 +1,15 @@
 // Events, answers, trails and cells in words.
 use cells::Cell;
 use cells::Kind;
+use events::Ask;
+use events::Event;
+use events::Report;
 use law::Entry;
-use machine::Answered;
-use machine::Refused;
 use perform::Answer;
+use rehearsal::Objection;
 use std::io;
 use words::Reason;
+use words::Refusal;
 
 fn answer_name(answer: Answer) -> &'static str {
     match answer {
@@ -57,48 +60,106 @@ fn cell_name(rt: &LibcRuntime, kind: Kind, task: u16, number: u16) -> io::Result
     }
 }
 
-pub(crate) fn cell_line(rt: &LibcRuntime, kind: Kind, task: u16, number: u16, value: u16) -> io::Result<()> {
+pub(crate) fn cell_line(
+    rt: &LibcRuntime,
+    kind: Kind,
+    task: u16,
+    number: u16,
+    value: u16,
+) -> io::Result<()> {
     print!(rt, "   ")?;
     cell_name(rt, kind, task, number)?;
     println!(rt, " holds {value:04X}")
 }
 
-fn entry_line(rt: &LibcRuntime, entry: Entry<Cell>) -> io::Result<()> {
+fn touch(rt: &LibcRuntime, entry: Entry<Cell>) -> io::Result<()> {
     let cell = entry.cell();
-    let touch = match entry {
-        Entry::Read(_) => "read",
-        Entry::Changed(_) => "changed",
-    };
-    print!(rt, "     {touch} ")?;
-    cell_name(rt, cell.kind(), cell.task(), cell.number())?;
+    match entry {
+        Entry::Read(_) => print!(rt, "; read ")?,
+        Entry::Changed(_) => print!(rt, "; changed ")?,
+    }
+    cell_name(rt, cell.kind(), cell.task(), cell.number())
+}
+
+fn ask(rt: &LibcRuntime, ask: Ask) -> io::Result<()> {
+    match ask {
+        Ask::Place { address, word } => print!(rt, "place {address:04X} {word:04X}"),
+        Ask::Feed { line, on } => print!(rt, "feed {line} {on}"),
+        Ask::Tick => print!(rt, "tick"),
+        Ask::Start { task, address } => print!(rt, "start {task} {address:04X}"),
+        Ask::Kill { task } => print!(rt, "kill {task}"),
+        Ask::Abort { task } => print!(rt, "abort {task}"),
+        Ask::Turn { task } => print!(rt, "turn {task}"),
+    }
+}
+
+fn end(rt: &LibcRuntime, end: Result<Answer, Refusal>, count: usize) -> io::Result<()> {
+    match end {
+        Ok(answer) => {
+            let name = answer_name(answer);
+            print!(rt, ": {name}, entries {count}")
+        }
+        Err(why) => {
+            let name = reason_name(why.reason);
+            let number = why.reason.number();
+            let task = why.task;
+            let place = why.place;
+            let operand = why.operand;
+            print!(
+                rt,
+                ": refused by {number} ({name}), task {task}, place {place:04X}, operand {operand}, entries {count}"
+            )
+        }
+    }
+}
+
+// An event at its position in the given order, with what it came to.
+pub(crate) fn report(
+    rt: &LibcRuntime,
+    position: usize,
+    event: Event,
+    report: Option<&Report>,
+) -> io::Result<()> {
+    print!(rt, "{position} ")?;
+    ask(rt, event.ask)?;
+    if let Some(report) = report {
+        end(rt, report.end, report.count)?;
+        for entry in report.entries() {
+            touch(rt, *entry)?;
+        }
+    }
     println!(rt)
 }
 
-// What a call returned, and the trail to its count.
-pub(crate) fn call(rt: &LibcRuntime, said: Result<Answered, Refused>, trail: &[Entry<Cell>]) -> io::Result<()> {
-    let count = match said {
-        Ok(told) => {
-            let name = answer_name(told.answer);
-            println!(rt, "   {name}, entries: {}", told.count)?;
-            told.count
-        }
-        Err(no) => {
-            let why = no.refusal;
-            let name = reason_name(why.reason);
-            println!(
-                rt,
-                "   refused by {} ({name}): task {}, place {:04X}, operand {}, entries: {}",
-                why.reason.number(),
-                why.task,
-                why.place,
-                why.operand,
-                no.count
-            )?;
-            no.count
-        }
-    };
-    for entry in trail.iter().take(count) {
-        entry_line(rt, *entry)?;
+pub(crate) fn report_at(
+    rt: &LibcRuntime,
+    position: usize,
+    event: Option<&Event>,
+    given: Option<&Report>,
+) -> io::Result<()> {
+    match event {
+        Some(event) => report(rt, position, *event, given),
+        None => Ok(()),
     }
-    Ok(())
+}
+
+pub(crate) fn objection(rt: &LibcRuntime, no: Objection) -> io::Result<()> {
+    match no {
+        Objection::NoRoom => println!(rt, "refused: too little room for the reports"),
+        Objection::NoOrder => println!(rt, "refused: no order of the events"),
+        Objection::OtherStart => println!(
+            rt,
+            "refused: the machines do not start with equal cells"
+        ),
+        Objection::Swaps(swap) => {
+            let first = swap.first;
+            let second = swap.second;
+            print!(
+                rt,
+                "refused: it swaps the events {first} and {second}, which clash on "
+            )?;
+            cell_name(rt, swap.cell.kind(), swap.cell.task(), swap.cell.number())?;
+            println!(rt)
+        }
+    }
 }

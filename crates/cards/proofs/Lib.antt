@@ -1,1 +1,5 @@
+pub mod Rows
 pub mod Packs
+pub mod Switches
+pub mod Flipping
+pub mod Leads

@@ -14,34 +14,19 @@ use lib.Seq.{set-getD, getD-set-same, getD-set-other, ext-getD}
 use Rattle.std.proofs.shelf.Bits.{xor-shr, xor-mod, shl-shr, pow-add, pow-below}
 use Rattle.std.proofs.shelf.Counted.{length-map-counting, getD-map-counting}
 use Rattle.cards.specs.Lines.{all-off, bit, line, unpacked}
-
-pub length-unpacked : (bs : List ℕ) → length (unpacked bs) ≡ 256
-unfolding unpacked
-length-unpacked bs = length-map-counting (line bs) 0 256
-
-pub unpacked-at : (bs : List ℕ) (i : ℕ) → i < 256 → getD (unpacked bs) i false ≡ line bs i
-unfolding unpacked
-unpacked-at bs i h = getD-map-counting (line bs) 0 256 i i false h (omega arith)
-
-pub length-all-off : length all-off ≡ 256
-unfolding all-off
-length-all-off = length-replicate 256 false
-
-pub all-off-at : (i : ℕ) → i < 256 → getD all-off i false ≡ false
-unfolding all-off
-all-off-at i h = getD-replicate 256 i false false h
+use Rattle.cards.proofs.Rows.{lines-off, lines-set}
 
 no-bit : (k : ℕ) → bit 0 k ≡ false
 no-bit k = let e : 0 / 2 ^ k ≡ 0 = zero-div (2 ^ k) in rw e
 
 -- bytes that are all 0 have every line off
 pub unpacked-zeros : unpacked (replicate 32 0) ≡ all-off
-unpacked-zeros = ext-getD false _ _ (length-unpacked (replicate 32 0) ∙ sym length-all-off) (λ i l. at i (omega (arith, length-unpacked (replicate 32 0))))
+unpacked-zeros = lines-off (line (replicate 32 0)) zero-line
   where
-    at : (i : ℕ) → i < 256 → getD (unpacked (replicate 32 0)) i false ≡ getD all-off i false
-    at i h =
+    zero-line : (i : ℕ) → i < 256 → line (replicate 32 0) i ≡ false
+    zero-line i h =
         let within : i / 8 < 32 = omega arith in
-        unpacked-at (replicate 32 0) i h ∙ ap (λ b. bit b (i % 8)) (getD-replicate 32 (i / 8) 0 0 within) ∙ no-bit (i % 8) ∙ sym (all-off-at i h)
+        ap (λ b. bit b (i % 8)) (getD-replicate 32 (i / 8) 0 0 within) ∙ no-bit (i % 8)
 
 -- the bits of a power of two
 pow-bit-same : (k : ℕ) → 2 ^ k / 2 ^ k % 2 ≡ 1
@@ -85,18 +70,6 @@ bit-there b k m j p ne =
     ap (λ x. bit (bitXor b x) j) p ∙ ap (λ x. eqb x 1) (xor-bits b (2 ^ k) j ∙ ap (λ x. bitXor (b / 2 ^ j % 2) x) (pow-bit-other k j ne))
     ∙ xor-none (b / 2 ^ j % 2) (omega arith)
 
-pub flipped-is : (was on : Bool) → not (Bool·beq was on) ≡ true → not was ≡ on
-flipped-is true true e = e
-flipped-is true false e = refl
-flipped-is false true e = refl
-flipped-is false false e = sym e
-
-pub kept-is : (was on : Bool) → not (Bool·beq was on) ≡ false → was ≡ on
-kept-is true true e = refl
-kept-is true false e = e
-kept-is false true e = sym e
-kept-is false false e = refl
-
 module _ (bs : List ℕ) (n b : ℕ) (on : Bool) (h : n < 256) (k : n / 8 < length bs) (here : bit b (n % 8) ≡ on)
     (there : (j : ℕ) → j ≢ n % 8 → bit b j ≡ bit (getD bs (n / 8) 0) j) where
   away : (i : ℕ) (c : Bool) → eqb (i / 8) (n / 8) ≡ c → i ≢ n → line (set bs (n / 8) b) i ≡ line bs i
@@ -106,20 +79,7 @@ module _ (bs : List ℕ) (n b : ℕ) (on : Bool) (h : n < 256) (k : n / 8 < leng
       ap (λ x. bit (getD (set bs (n / 8) b) x 0) (i % 8)) q ∙ ap (λ x. bit x (i % 8)) (getD-set-same bs (n / 8) b 0 k) ∙ there (i % 8) r ∙ ap (λ x. bit (getD bs x 0) (i % 8)) (sym q)
   away i false e ne = ap (λ x. bit x (i % 8)) (getD-set-other bs (n / 8) (i / 8) b 0 (eqb-false (i / 8) (n / 8) e))
 
-  each : (i : ℕ) (c : Bool) → eqb i n ≡ c → i < 256 → getD (unpacked (set bs (n / 8) b)) i false ≡ getD (set (unpacked bs) n on) i false
-  each i true e l =
-      let q : i ≡ n = eqb-true i n e in
-      let long : n < length (unpacked bs) = omega (arith, length-unpacked bs) in
-      unpacked-at (set bs (n / 8) b) i l ∙ ap (λ x. line (set bs (n / 8) b) x) q ∙ ap (λ x. bit x (n % 8)) (getD-set-same bs (n / 8) b 0 k) ∙ here
-      ∙ sym (ap (λ x. getD (set (unpacked bs) n on) x false) q ∙ getD-set-same (unpacked bs) n on false long)
-  each i false e l =
-      unpacked-at (set bs (n / 8) b) i l ∙ away i (eqb (i / 8) (n / 8)) refl (eqb-false i n e) ∙ sym (getD-set-other (unpacked bs) n i on false (eqb-false i n e) ∙ unpacked-at bs i l)
-
   pub unpacked-set : unpacked (set bs (n / 8) b) ≡ set (unpacked bs) n on
   unpacked-set =
-      ext-getD false _ _ (length-unpacked (set bs (n / 8) b) ∙ sym (length-set (unpacked bs) n on ∙ length-unpacked bs))
-      (λ i l. each i (eqb i n) refl (omega (arith, length-unpacked (set bs (n / 8) b))))
-
--- a line that is what it should be stays
-pub unpacked-same : (bs : List ℕ) (n : ℕ) (on : Bool) → n < 256 → line bs n ≡ on → unpacked bs ≡ set (unpacked bs) n on
-unpacked-same bs n on h e = sym (ap (λ x. set (unpacked bs) n x) (sym (unpacked-at bs n h ∙ e)) ∙ set-getD (unpacked bs) n false)
+      lines-set (line bs) (line (set bs (n / 8) b)) n on h (ap (λ x. bit x (n % 8)) (getD-set-same bs (n / 8) b 0 k) ∙ here)
+      (λ i l ne. away i (eqb (i / 8) (n / 8)) refl ne)

@@ -5,6 +5,12 @@ ghost use mathlib.Core.List.{List};
 ghost use Prim.Native.Nat.{ℕ};
 ghost use lib.ListN.{length, getD, set};
 ghost use Rattle.cards.specs.Lines.{all-off, packed-lines};
+ghost use Rattle.cards.specs.Refusals.{refusal-number};
+
+pub mod active_low;
+mod contacts;
+pub mod crossing;
+pub mod wear;
 
 // How many lines a card has.
 const LINES: u16 = 256;
@@ -22,6 +28,22 @@ pub trait Card {
     // Line n becomes `on`, and the others stay. With a number above 255 nothing changes.
     fn write(&mut self, n: u16, on: bool)
         ensures { λ _. ⌜ lines (now (self .exit)) ≡ set (lines (now (self .entry))) n on ⌝ };
+}
+
+// Why a question or a change that names a line is refused.
+#[derive(Clone, Copy, PartialEq, Eq, Debug)]
+pub enum CardRefusal {
+    NoSuchLine,
+}
+
+impl CardRefusal {
+    pub fn number(self) -> u16
+        ensures { λ r. ⌜ r ≡ refusal-number self ⌝ }
+    {
+        match self {
+            CardRefusal::NoSuchLine => 2,
+        }
+    }
 }
 
 // One bit a line: line n is bit n % 8 of byte n / 8.
@@ -63,6 +85,12 @@ pub impl Card for Packed as PackedCard {
 
 #[cfg(test)]
 mod tests {
+    use super::active_low::ActiveLow;
+    use super::active_low::ActiveLowCard;
+    use super::crossing::Crossing;
+    use super::crossing::CrossingCard;
+    use super::wear::Wear;
+    use super::wear::WearCard;
     use super::*;
     use std::test::*;
 
@@ -96,5 +124,37 @@ mod tests {
             check(!card.read(n)).note("no line was touched")?;
         }
         Ok(())
+    }
+
+    #[test]
+    fn switchings_are_counted() -> Result<(), Fail> {
+        let mut card = Wear::new();
+        card.write(7, false);
+        card.write(7, true);
+        card.write(7, true);
+        check_eq(card.count(7), Ok(1)).note("on twice is one switching")?;
+        check(card.read(7))?;
+        card.write(7, false);
+        check_eq(card.count(7), Ok(2))?;
+        check(!card.read(7))?;
+        check_eq(card.count(255), Ok(0))?;
+        check_eq(card.count(256), Err(CardRefusal::NoSuchLine))
+    }
+
+    #[test]
+    fn a_pile_of_cards() -> Result<(), Fail> {
+        let mut mask = [false; 256];
+        mask[3] = true;
+        let mut card = Crossing::new(ActiveLow::new(Wear::new(), mask));
+        check(card.read(3) && !card.read(200)).note("line 3 is flipped")?;
+        check_eq(card.exchange(3, 200), Ok(()))?;
+        check(!card.read(3) && card.read(200)).note("the two have changed places")?;
+        card.write(200, false);
+        card.write(3, true);
+        check(card.read(3) && !card.read(200)).note("each is written by itself")?;
+        check_eq(card.exchange(3, 256), Err(CardRefusal::NoSuchLine))?;
+        check_eq(card.exchange(256, 3), Err(CardRefusal::NoSuchLine))?;
+        check_eq(card.exchange(3, 200), Ok(()))?;
+        check(!card.read(3) && card.read(200)).note("changed back, with what was written")
     }
 }

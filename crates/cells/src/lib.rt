@@ -2,7 +2,7 @@
 ghost use mathlib.Core.Path.{_≡_};
 ghost use mathlib.Core.List.{[], _∷_};
 ghost use Rattle.std.specs.Options.{Cases};
-ghost use Rattle.cells.specs.Cells.{kind-number, kind-of, task-of, number-of, There, named};
+ghost use Rattle.cells.specs.Cells.{kind-number, kind-of, task-of, number-of, same, There, named};
 ghost use Rattle.cells.specs.Trails.{Fresh, Grows};
 use law::Entry;
 
@@ -70,6 +70,14 @@ impl Cell {
             Kind::Output if task == 0 && number < 256 => Some(Cell::Output { line: number as u8 }),
             _ => None,
         }
+    }
+
+    // Whether the two are one cell.
+    pub fn same(self, other: Cell) -> bool
+        ensures { λ r. ⌜ r ≡ same self other ⌝ }
+    {
+        self.kind().number() == other.kind().number()
+            && (self.task() == other.task() && self.number() == other.number())
     }
 
     pub fn kind(self) -> Kind

@@ -78,3 +78,11 @@ told None s = Err (plain NoSuchThing)
 
 abbrev pub asked : ℕ → Kind → ℕ → ℕ → Contents Cell → Result ℕ Refusal
 asked size kind task number s = cond (ram-fits size) (told (named size kind task number) s) (Err (plain RamLength))
+
+-- two machines with their RAM hold the same: equal tasks and flags, cards that show equal lines, equal words
+module _ {I O J P : Type 0} (i : I → List Bool) (o : O → List Bool) (j : J → List Bool) (p : P → List Bool) where
+  pub record Equal (m : Machine I O) (ram : List ℕ) (n : Machine J P) (ram' : List ℕ) : Type 0 where
+    pub board : m .board ≡ n .board
+    pub inputs : i (m .inputs) ≡ j (n .inputs)
+    pub outputs : o (m .outputs) ≡ p (n .outputs)
+    pub words : ram ≡ ram'

@@ -1,5 +1,5 @@
 -- The events, as trees. `size` is the length of RAM and `room` that of the list for the trail.
-use mathlib.Core.Bool.{Bool, cond, _&&_}
+use mathlib.Core.Bool.{Bool, true, cond, _&&_}
 use Prim.Native.Nat.{ℕ}
 use lib.Dec.{eqb, leb, ltb}
 use Rattle.law.specs.Trees.{ret, refuse, look, change, bind}
@@ -12,7 +12,7 @@ use Rattle.cells.specs.Runs.{Steps}
 use Rattle.store.specs.View.{state-number, level}
 use Rattle.store.specs.declared.State.the-variants as state
 use Rattle.plan.specs.Actions.{plan}
-use Rattle.perform.specs.Perform.{perform}
+use Rattle.perform.specs.Perform.{kill as kill-task, abort as abort-task, ready-at, ticks, perform}
 use Rattle.perform.specs.declared.Answer.{Answer}
 use Rattle.perform.specs.declared.Answer.the-variants.{Done, Idle, Waiting}
 
@@ -44,16 +44,8 @@ place size room a w = admitted size room (ltb a size) (change (Ram a) w (ret Don
 abbrev pub feed : ℕ → ℕ → ℕ → Bool → Steps Answer
 feed size room n on = admitted size room (ltb n 256) (change (Input n) (level on) (ret Done))
 
--- a task is made ready at the address a
-abbrev pub ready-at : ℕ → ℕ → Steps Answer
-ready-at t a =
-    change (State t) (state-number state.Ready) (
-    change (Place t) a (
-    change (Delay t) 0 (
-    change (Register t 0x77) 0 (
-    change (Register t 0x78) 0 (
-    change (Register t 0x7B) 0 (
-    ret Done))))))
+abbrev pub tick : ℕ → ℕ → Steps Answer
+tick size room = admitted size room true (ticks 32)
 
 -- only an idle task is started
 abbrev pub launch : ℕ → ℕ → Steps Answer
@@ -61,6 +53,12 @@ launch t a = look (State t) (λ s. cond (eqb s (state-number state.Idle)) (ready
 
 abbrev pub start : ℕ → ℕ → ℕ → ℕ → Steps Answer
 start size room t a = admitted size room (ltb t 32) (launch t a)
+
+abbrev pub kill : ℕ → ℕ → ℕ → Steps Answer
+kill size room t = admitted size room (ltb t 32) (kill-task t)
+
+abbrev pub abort : ℕ → ℕ → ℕ → Steps Answer
+abort size room t = admitted size room (ltb t 32) (abort-task t)
 
 -- one command of task t, if it is ready and has no delay
 abbrev pub command : ℕ → Site → Steps Answer

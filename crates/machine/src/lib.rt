@@ -6,22 +6,28 @@ ghost use Prim.Native.Nat.{ℕ, _<_, _≤_};
 ghost use lib.ListN.{length};
 ghost use Rattle.cells.specs.declared.Cell.{Cell as CellOf};
 ghost use Rattle.cells.specs.Runs.{Finds, Goes};
+ghost use Rattle.std.specs.Orderings.{Decides};
 ghost use Rattle.std.specs.declared.result.Result.the-variants.{Ok};
 ghost use Rattle.store.specs.View.{level, view, new-cells};
-ghost use Rattle.machine.specs.Calls.{cells-of, early-refusal, Admits, Ends, Did, asked};
-ghost use Rattle.machine.specs.Events.{plain, ready-at, launch, cycle, place, feed, start, turn};
+ghost use Rattle.machine.specs.Calls.{cells-of, early-refusal, Admits, Ends, Did, asked, Equal};
+ghost use Rattle.machine.specs.Events.{plain, launch, cycle, place, feed, tick, start, kill, abort, turn};
 use cards::Card;
 use cells::Cell;
 use cells::Kind;
 use cells::Trail;
 use law::Entry;
 use perform::Answer;
+use perform::abort_task;
+use perform::end_task;
+use perform::make_ready;
 use perform::perform_action;
+use perform::tick_tasks;
 use plan::plan_command;
 use store::Board;
 use store::Line;
 use store::State;
 use store::read_cell;
+use store::same_lines;
 use store::write_line;
 use store::write_ram;
 use words::Reason;
@@ -85,20 +91,6 @@ fn admit(size: usize, there: bool, room: usize) -> Result<(), Refused>
     Ok(())
 }
 
-// Makes a task ready at an address.
-fn make_ready(board: &mut Board, t: u8, address: u16, trail: &mut Trail) -> Answer
-    requires { ⌜ t < 32 ⌝ }
-    ensures { λ r. ⌜ ((is os : List Bool) (ws : List ℕ) → Goes (ready-at t address) (view (now (board .entry)) is os ws) (now (trail .entry)) r (view (now (board .exit)) is os ws) (now (trail .exit))) ⌝ }
-{
-    board.write_state(t, State::Ready, trail);
-    board.write_place(t, address, trail);
-    board.write_delay(t, 0, trail);
-    board.write_register(t, 0x77, 0, trail);
-    board.write_register(t, 0x78, 0, trail);
-    board.write_register(t, 0x7B, 0, trail);
-    Answer::Done
-}
-
 fn launch_task(board: &mut Board, t: u8, address: u16, trail: &mut Trail) -> Result<Answer, Refusal>
     requires { ⌜ t < 32 ⌝ }
     ensures { λ r. ⌜ ((is os : List Bool) (ws : List ℕ) → Ends (launch t address) (view (now (board .entry)) is os ws) (now (trail .entry)) r (view (now (board .exit)) is os ws) (now (trail .exit))) ⌝ }
@@ -132,6 +124,27 @@ impl<I: Card, O: Card> Machine<I, O> {
             Some(cell) => Ok(read_cell(&self.board, &self.inputs, &self.outputs, ram, cell)),
             None => Err(plain_refusal(Reason::NoSuchThing)),
         }
+    }
+
+    // Whether this machine with its RAM and another with its own hold the same in all cells.
+    pub fn same_cells<J: Card, P: Card>(
+        &self,
+        ram: &[u16],
+        other: &Machine<J, P>,
+        other_ram: &[u16],
+    ) -> bool
+        ensures { λ r. ⌜ Decides r (Equal (I·Card .lines) (O·Card .lines) (J·Card .lines) (P·Card .lines) (now (self .entry)) (now (ram .entry)) (now (other .entry)) (now («other_ram» .entry))) ⌝ }
+    {
+        if !self.board.same_as(&other.board) {
+            return false;
+        }
+        if !same_lines(&self.inputs, &other.inputs) {
+            return false;
+        }
+        if !same_lines(&self.outputs, &other.outputs) {
+            return false;
+        }
+        ram == other_ram
     }
 
     // Puts a word into RAM.
@@ -201,6 +214,55 @@ impl<I: Card, O: Card> Machine<I, O> {
                 count: notes.count(),
             }),
         }
+    }
+
+    // Ten milliseconds have passed: every timer and delay that is not zero counts down.
+    pub fn tick(&mut self, ram: &[u16], trail: &mut [Entry<Cell>]) -> Result<Answered, Refused>
+        ensures { λ r. ⌜ Did (tick (length (now (ram .entry))) (length (now (trail .entry)))) (cells-of (I·Card .lines) (O·Card .lines) (now (self .entry)) (now (ram .entry))) (now (trail .entry)) r (cells-of (I·Card .lines) (O·Card .lines) (now (self .exit)) (now (ram .entry))) (now (trail .exit)) ⌝ }
+    {
+        admit(ram.len(), true, trail.len())?;
+        let mut notes = Trail::new(trail);
+        let answer = tick_tasks(&mut self.board, &mut notes);
+        Ok(Answered {
+            answer,
+            count: notes.count(),
+        })
+    }
+
+    // Stops a task.
+    pub fn kill(
+        &mut self,
+        ram: &[u16],
+        task: u16,
+        trail: &mut [Entry<Cell>],
+    ) -> Result<Answered, Refused>
+        ensures { λ r. ⌜ Did (kill (length (now (ram .entry))) (length (now (trail .entry))) task) (cells-of (I·Card .lines) (O·Card .lines) (now (self .entry)) (now (ram .entry))) (now (trail .entry)) r (cells-of (I·Card .lines) (O·Card .lines) (now (self .exit)) (now (ram .entry))) (now (trail .exit)) ⌝ }
+    {
+        admit(ram.len(), task < 32, trail.len())?;
+        let mut notes = Trail::new(trail);
+        let answer = end_task(&mut self.board, task as u8, &mut notes);
+        Ok(Answered {
+            answer,
+            count: notes.count(),
+        })
+    }
+
+    // Sends a task to its abort address, or stops it where it has none.
+    pub fn abort(
+        &mut self,
+        ram: &[u16],
+        task: u16,
+        trail: &mut [Entry<Cell>],
+    ) -> Result<Answered, Refused>
+        ensures { λ r. ⌜ Did (abort (length (now (ram .entry))) (length (now (trail .entry))) task) (cells-of (I·Card .lines) (O·Card .lines) (now (self .entry)) (now (ram .entry))) (now (trail .entry)) r (cells-of (I·Card .lines) (O·Card .lines) (now (self .exit)) (now (ram .entry))) (now (trail .exit)) ⌝ }
+    {
+        admit(ram.len(), task < 32, trail.len())?;
+        let mut notes = Trail::new(trail);
+        let answer = abort_task(&mut self.board, task as u8, &mut notes);
+        Ok(Answered {
+            answer,
+            count: notes.count(),
+        })
     }
 
     // One command of a task that is ready and has no delay.

@@ -1,9 +1,10 @@
 -- What each action reads and changes.
 use mathlib.Core.Bool.{Bool, not, cond}
-use Prim.Native.Nat.{ℕ}
+use Prim.Native.Nat.{ℕ, zero, suc, _-_}
 use lib.Dec.{eqb}
 use Rattle.law.specs.Trees.{ret, look, change, bind}
-use Rattle.cells.specs.declared.Cell.the-variants.{Place, State}
+use Rattle.cells.specs.declared.Cell.{Cell}
+use Rattle.cells.specs.declared.Cell.the-variants.{Register, Place, State, Delay}
 use Rattle.cells.specs.Runs.{Steps}
 use Rattle.store.specs.View.{state-number, level, line-cell}
 use Rattle.store.specs.declared.Line.{Line}
@@ -27,6 +28,37 @@ move-on t p = change (Place t) p (ret Ran)
 -- a task is stopped
 abbrev pub kill : ℕ → Steps Answer
 kill t = change (State t) (state-number state.Idle) (ret Done)
+
+-- a task is made ready at the address a, with an empty stack, no timer and no abort address
+abbrev pub ready-at : ℕ → ℕ → Steps Answer
+ready-at t a =
+    change (State t) (state-number state.Ready) (
+    change (Place t) a (
+    change (Delay t) 0 (
+    change (Register t 0x77) 0 (
+    change (Register t 0x78) 0 (
+    change (Register t 0x7B) 0 (
+    ret Done))))))
+
+-- a task that is not idle jumps to its abort address, or is stopped if that is zero
+abbrev pub abort-to : ℕ → ℕ → Steps Answer
+abort-to t a = cond (eqb a 0) (kill t) (change (Place t) a (change (Register t 0x77) 0 (ret Done)))
+
+abbrev pub abort : ℕ → Steps Answer
+abort t = look (State t) (λ s. cond (eqb s (state-number state.Idle)) (ret Done) (look (Register t 0x7B) (abort-to t)))
+
+-- one less, unless it is zero
+abbrev pub count-down : Cell → Steps Answer
+count-down c = look c (λ v. cond (eqb v 0) (ret Done) (change c (v - 1) (ret Done)))
+
+-- the timer of a task, then its delay
+abbrev pub tick-task : ℕ → Steps Answer
+tick-task t = bind (count-down (Register t 0x78)) (λ _. count-down (Delay t))
+
+-- the first n tasks, in order
+unfoldable pub ticks : ℕ → Steps Answer
+ticks zero = ret Done
+ticks (suc n) = bind (ticks n) (λ _. tick-task n)
 
 -- the bit v as a line holds it
 abbrev pub is-level : Bool → ℕ → Bool

@@ -3,9 +3,11 @@ ghost use mathlib.Core.Path.{_≡_};
 ghost use mathlib.Core.Bool.{Bool};
 ghost use mathlib.Core.List.{List};
 ghost use Prim.Native.Nat.{ℕ, _<_};
+ghost use Rattle.cells.specs.declared.Cell.the-variants.{Register, Delay};
 ghost use Rattle.cells.specs.Runs.{Goes};
 ghost use Rattle.store.specs.View.{level, view};
-ghost use Rattle.perform.specs.Perform.{answer-number, is-level, move-on, kill, branch, write, invert, halt, perform};
+ghost use Rattle.perform.specs.declared.Answer.the-variants.{Done};
+ghost use Rattle.perform.specs.Perform.{answer-number, is-level, move-on, kill, ready-at, abort, count-down, tick-task, ticks, branch, write, invert, halt, perform};
 use cards::Card;
 use cells::Trail;
 use plan::Action;
@@ -14,6 +16,15 @@ use store::Line;
 use store::State;
 use store::read_line;
 use store::write_line;
+
+// Registers with a use of their own.
+const STACK_DEPTH: u8 = 0x77;
+
+const TIMER: u8 = 0x78;
+
+const EMPTY: u16 = 0;
+
+const ABORT_ADDRESS: u8 = 0x7B;
 
 // What an accepted event says.
 #[derive(Clone, Copy)]
@@ -60,6 +71,79 @@ pub fn end_task(board: &mut Board, t: u8, trail: &mut Trail) -> Answer
     ensures { λ r. ⌜ ((is os : List Bool) (ws : List ℕ) → Goes (kill t) (view (now (board .entry)) is os ws) (now (trail .entry)) r (view (now (board .exit)) is os ws) (now (trail .exit))) ⌝ }
 {
     board.write_state(t, State::Idle, trail);
+    Answer::Done
+}
+
+// Makes a task ready at an address.
+pub fn make_ready(board: &mut Board, t: u8, address: u16, trail: &mut Trail) -> Answer
+    requires { ⌜ t < 32 ⌝ }
+    ensures { λ r. ⌜ ((is os : List Bool) (ws : List ℕ) → Goes (ready-at t address) (view (now (board .entry)) is os ws) (now (trail .entry)) r (view (now (board .exit)) is os ws) (now (trail .exit))) ⌝ }
+{
+    board.write_state(t, State::Ready, trail);
+    board.write_place(t, address, trail);
+    board.write_delay(t, 0, trail);
+    board.write_register(t, STACK_DEPTH, 0, trail);
+    board.write_register(t, TIMER, 0, trail);
+    board.write_register(t, ABORT_ADDRESS, 0, trail);
+    Answer::Done
+}
+
+// Sends a task to its abort address, or stops it where it has none.
+pub fn abort_task(board: &mut Board, t: u8, trail: &mut Trail) -> Answer
+    requires { ⌜ t < 32 ⌝ }
+    ensures { λ r. ⌜ ((is os : List Bool) (ws : List ℕ) → Goes (abort t) (view (now (board .entry)) is os ws) (now (trail .entry)) r (view (now (board .exit)) is os ws) (now (trail .exit))) ⌝ }
+{
+    match board.read_state(t, trail) {
+        State::Idle => return Answer::Done,
+        State::Ready => {}
+    }
+    let target = board.read_register(t, ABORT_ADDRESS, trail);
+    if target == 0 {
+        return end_task(board, t, trail);
+    }
+    board.write_place(t, target, trail);
+    // the stack is empty there
+    board.write_register(t, STACK_DEPTH, EMPTY, trail);
+    Answer::Done
+}
+
+fn count_timer(board: &mut Board, t: u8, trail: &mut Trail)
+    requires { ⌜ t < 32 ⌝ }
+    ensures { λ _. ⌜ ((is os : List Bool) (ws : List ℕ) → Goes (count-down (Register t 0x78)) (view (now (board .entry)) is os ws) (now (trail .entry)) Done (view (now (board .exit)) is os ws) (now (trail .exit))) ⌝ }
+{
+    let timer = board.read_register(t, TIMER, trail);
+    if timer == 0 {
+        return;
+    }
+    board.write_register(t, TIMER, timer - 1, trail);
+}
+
+fn count_delay(board: &mut Board, t: u8, trail: &mut Trail)
+    requires { ⌜ t < 32 ⌝ }
+    ensures { λ _. ⌜ ((is os : List Bool) (ws : List ℕ) → Goes (count-down (Delay t)) (view (now (board .entry)) is os ws) (now (trail .entry)) Done (view (now (board .exit)) is os ws) (now (trail .exit))) ⌝ }
+{
+    let left = board.read_delay(t, trail);
+    if left == 0 {
+        return;
+    }
+    board.write_delay(t, left - 1, trail);
+}
+
+fn tick_task(board: &mut Board, t: u8, trail: &mut Trail)
+    requires { ⌜ t < 32 ⌝ }
+    ensures { λ _. ⌜ ((is os : List Bool) (ws : List ℕ) → Goes (tick-task t) (view (now (board .entry)) is os ws) (now (trail .entry)) Done (view (now (board .exit)) is os ws) (now (trail .exit))) ⌝ }
+{
+    count_timer(board, t, trail);
+    count_delay(board, t, trail);
+}
+
+// Counts the timers and delays of all tasks down.
+pub fn tick_tasks(board: &mut Board, trail: &mut Trail) -> Answer
+    ensures { λ r. ⌜ ((is os : List Bool) (ws : List ℕ) → Goes (ticks 32) (view (now (board .entry)) is os ws) (now (trail .entry)) r (view (now (board .exit)) is os ws) (now (trail .exit))) ⌝ }
+{
+    for t in 0..32u8 {
+        tick_task(board, t, trail);
+    }
     Answer::Done
 }
 

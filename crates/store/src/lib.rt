@@ -8,13 +8,14 @@ ghost use Rattle.cells.specs.declared.Cell.{Cell};
 ghost use Rattle.cells.specs.declared.Cell.the-variants.{Register, Place, State as StateCell, Delay, Flag, Ram};
 ghost use Rattle.cells.specs.Cells.{There};
 ghost use Rattle.cells.specs.Runs.{Sees, Pokes};
+ghost use Rattle.std.specs.Orderings.{Decides};
 ghost use Rattle.store.specs.View.{state-number, level, view, new-cells, line-cell, with-register, with-place, with-state, with-delay};
 use cards::Card;
 use cells::Cell;
 use cells::Trail;
 use law::Entry;
 
-#[derive(Clone, Copy)]
+#[derive(Clone, Copy, PartialEq, Eq)]
 pub enum State {
     Idle,
     Ready,
@@ -67,6 +68,18 @@ impl Task {
     }
 }
 
+// Two records are the same if all their parts are.
+impl PartialEq<Task> for Task as TaskPartialEq {
+    ghost equals = { λ a b r. Decides r (a ≡ b) };
+
+    fn eq(&self, other: &Task) -> bool {
+        self.place == other.place
+            && self.state == other.state
+            && self.delay == other.delay
+            && self.registers[..] == other.registers[..]
+    }
+}
+
 // The plain part of a machine: its table of tasks, and its flags.
 #[derive(Drop)]
 pub struct Board {
@@ -88,6 +101,13 @@ impl Board {
             tasks: [task; 32],
             flags: [false; 256],
         }
+    }
+
+    // Whether all tasks and flags are the same.
+    pub fn same_as(&self, other: &Board) -> bool
+        ensures { λ r. ⌜ Decides r (now (self .entry) ≡ now (other .entry)) ⌝ }
+    {
+        self.tasks[..] == other.tasks[..] && self.flags[..] == other.flags[..]
     }
 
     pub fn read_state(&self, t: u8, trail: &mut Trail) -> State
@@ -244,6 +264,18 @@ pub fn write_line<I: Card, O: Card>(
         }
         Line::Flag(n) => board.write_flag(n, on, trail),
     }
+}
+
+// Whether two cards show the same lines.
+pub fn same_lines<C: Card, D: Card>(a: &C, b: &D) -> bool
+    ensures { λ r. ⌜ Decides r (C·Card .lines (now (a .entry)) ≡ D·Card .lines (now (b .entry))) ⌝ }
+{
+    for n in 0..256u16 {
+        if a.read(n) != b.read(n) {
+            return false;
+        }
+    }
+    true
 }
 
 // What any one cell holds, with no entry in a trail.

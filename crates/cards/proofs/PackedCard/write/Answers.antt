@@ -1,11 +1,12 @@
-use mathlib.Core.Path.{sym, _∙_}
+use mathlib.Core.Path.{_∙_}
 use Prim.Native.Nat.{_/_, _%_, _<_}
 use native.Mathlib.Omega.{arith}
 use borrow.Author.Needs.{needs}
 use lib.ListN.{length, getD}
-use lib.Seq.{set-out}
 use Rattle.std.proofs.shelf.Bits.{one-shl}
-use Rattle.cards.proofs.Packs.{length-unpacked, unpacked-set, unpacked-same, bit-here, bit-there, flipped-is, kept-is}
+use Rattle.cards.specs.Lines.{line}
+use Rattle.cards.proofs.Packs.{unpacked-set, bit-here, bit-there}
+use Rattle.cards.proofs.Rows.{lines-kept, lines-stay, flipped-is, kept-is}
 use Rattle.cards.proofs.PackedCard.write.Needs as need
 
 pub returns-then-was-on : need.returns-then-was-on
@@ -20,7 +21,7 @@ returns-then-was-on c =
     (λ j ne. bit-there b (n % 8) _ j mask ne)
 
 pub returns-else-was-on : need.returns-else-was-on
-returns-else-was-on c = unpacked-same (c .args .self .now .bytes) (c .args .n) (c .args .on) (omega arith) (kept-is _ _ (c .if-was-on .left))
+returns-else-was-on c = lines-kept (line (c .args .self .now .bytes)) (c .args .n) (c .args .on) (omega arith) (kept-is _ _ (c .if-was-on .left))
 
 pub returns-else-n-lt-LINES : need.returns-else-n-lt-LINES
-returns-else-n-lt-LINES c = sym (set-out _ _ _ (omega (arith, length-unpacked (c .args .self .now .bytes))))
+returns-else-n-lt-LINES c = lines-stay (line (c .args .self .now .bytes)) (c .args .n) (c .args .on) (omega arith)

@@ -1,5 +1,5 @@
 use Rattle.cells.proofs.Following.{go-change, go-ret}
-use Rattle.machine.proofs.make_ready.Needs as need
+use Rattle.perform.proofs.make_ready.Needs as need
 
 pub returns : need.returns
 returns c = λ is os ws.

@@ -1,0 +1,2 @@
+pub mod Reporting
+pub mod Lawful
