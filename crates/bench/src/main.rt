@@ -15,6 +15,7 @@ use cells::Cell;
 use cells::Kind;
 use events::Event;
 use events::Report;
+use events::apply;
 use law::Entry;
 use machine::Machine;
 use perform::Answer;
@@ -144,7 +145,42 @@ fn all_changed<I: Card, O: Card>(
     changed(rt, machine, ram, Kind::Output, 1, 256)
 }
 
+fn task_cells(rt: &LibcRuntime, machine: &Plain, ram: &[u16], task: u16) -> io::Result<()> {
+    for (kind, number) in [
+        (Kind::State, 0),
+        (Kind::Place, 0),
+        (Kind::Delay, 0),
+        (Kind::Register, 0x77),
+        (Kind::Register, 0x78),
+        (Kind::Register, 0x7B),
+    ] {
+        if let Ok(v) = machine.cell(ram, kind, task, number) {
+            print::cell_line(rt, kind, task, number, v)?;
+        }
+    }
+    Ok(())
+}
+
+// A task meets a word that is no command, and another task is as it was.
+fn slip(rt: &LibcRuntime) -> io::Result<()> {
+    let mut machine: Plain = Machine::new(Packed::new(), Packed::new());
+    let mut ram = vec![in rt.alloc(); 0u16; WORDS]?;
+    println!(rt, "-- a slip in task 1")?;
+    for event in morning::slip() {
+        let report = apply(&mut machine, &mut ram, event);
+        print::report(rt, 0, event, Some(&report))?;
+    }
+    println!(rt, "-- task 0 before the turn of task 1")?;
+    task_cells(rt, &machine, &ram, 0)?;
+    let event = morning::slip_turn();
+    let report = apply(&mut machine, &mut ram, event);
+    print::report(rt, 0, event, Some(&report))?;
+    println!(rt, "-- task 0 after it")?;
+    task_cells(rt, &machine, &ram, 0)
+}
+
 fn main(rt: LibcRuntime) -> io::Result<()> {
+    slip(&rt)?;
     let events = morning::events(rt.alloc())?;
     let order = morning::order(rt.alloc(), &events, false)?;
     show(&rt, &events, &order)?;

@@ -146,6 +146,28 @@ pub(crate) fn events(heap: Global) -> Result<Vec<Event>, AllocError> {
     Ok(events)
 }
 
+// Two tasks are started, and the second has a word that is no command.
+pub(crate) fn slip() -> [Event; 3] {
+    [
+        event(Ask::Place {
+            address: SLIP,
+            word: 0xFF00,
+        }),
+        event(Ask::Start {
+            task: 0,
+            address: HOMING,
+        }),
+        event(Ask::Start {
+            task: 1,
+            address: SLIP,
+        }),
+    ]
+}
+
+pub(crate) fn slip_turn() -> Event {
+    event(Ask::Turn { task: 1 })
+}
+
 // To which group an event belongs: setting up, the lamp, the exhaust, homing, the pulse, the slip, and ticks.
 fn group(ask: Ask, pulse_apart: bool) -> u16 {
     match ask {
