@@ -13,9 +13,17 @@ pub struct ActiveLow<C> {
 
 impl<C: Card> ActiveLow<C> {
     pub fn new(below: C, mask: [bool; 256]) -> ActiveLow<C>
-        ensures { λ r. ⌜ low-lines (C·Card .lines) r ≡ flipped mask (C·Card .lines below) ⌝ }
+        ensures lines { λ r. ⌜ low-lines (C·Card .lines) r ≡ flipped mask (C·Card .lines below) ⌝ }
+        ensures mask { λ r. ⌜ r .mask ≡ mask ⌝ }
+        ensures below { λ r. ⌜ r .below ≡ below ⌝ }
     {
         ActiveLow { below, mask }
+    }
+
+    pub fn below(&self) -> &C
+        ensures { λ r. ⌜ now r ≡ now (self .entry) .below ⌝ }
+    {
+        &self.below
     }
 }
 

@@ -20,11 +20,18 @@ impl<C: Card> Crossing<C> {
     pub fn new(below: C) -> Crossing<C>
         ensures contacts { λ r. ⌜ r .contacts .to ≡ straight ⌝ }
         ensures lines { λ r. ⌜ crossing-lines (C·Card .lines) r ≡ C·Card .lines below ⌝ }
+        ensures below { λ r. ⌜ r .below ≡ below ⌝ }
     {
         Crossing {
             below,
             contacts: Contacts::straight(),
         }
+    }
+
+    pub fn below(&self) -> &C
+        ensures { λ r. ⌜ now r ≡ now (self .entry) .below ⌝ }
+    {
+        &self.below
     }
 
     // The lines a and b exchange their contacts. A number above 255 names no line, and is refused.

@@ -12,7 +12,11 @@ use Rattle.law.proofs.Single.{joining}
 use Rattle.words.specs.declared.Refusal.{Refusal}
 use Rattle.cells.specs.declared.Cell.{Cell}
 use Rattle.cells.specs.Cells.{same}
-use Rattle.cells.specs.Runs.{Steps, Short}
+use Rattle.cells.specs.Runs.{Steps}
+
+-- no run of the tree lists more than n entries
+pub record Short {A : Type 0} (n : ℕ) (m : Steps A) : Type 0 where
+  pub is : (s : Contents Cell) → length (go same m s .trail) ≤ n
 
 module _ {A : Type 0} where
   pub short-ret : {n : ℕ} {a : A} → Short n (ret a)

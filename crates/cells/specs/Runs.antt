@@ -1,8 +1,7 @@
 -- How code follows a tree.
 use mathlib.Core.Path.{_≡_}
 use mathlib.Core.List.{List, [], _∷_}
-use Prim.Native.Nat.{ℕ, _≤_}
-use lib.ListN.{length}
+use Prim.Native.Nat.{ℕ}
 use Rattle.std.specs.declared.result.Result.{Result}
 use Rattle.std.specs.declared.result.Result.the-variants.{Ok, Err}
 use Rattle.law.specs.declared.Entry.the-variants.{Read, Changed}
@@ -44,7 +43,3 @@ pub record Goes {A : Type 0} (m : Steps A) (s : Contents Cell) (t : Trail) (a : 
   pub ends : go same m s .end ≡ Ok a
   pub after : go same m s .after ≡ s'
   pub grows : Grows (go same m s .trail) t t'
-
--- no run of the tree lists more than n entries
-pub record Short {A : Type 0} (n : ℕ) (m : Steps A) : Type 0 where
-  pub is : (s : Contents Cell) → length (go same m s .trail) ≤ n

@@ -8,7 +8,7 @@ use native.Mathlib.Numerals.{add-one}
 use native.Mathlib.Omega.{arith}
 use lib.ListN.{length, take, drop, getD, set, length-map}
 use lib.Seq.{take-suc, take-suc-set, drop-set-lt}
-use Rattle.law.specs.Trees.{Contents, Outcome, run}
+use Rattle.law.specs.Trees.{Contents, run}
 use Rattle.law.specs.Order.{Report as Told, report, reports, final, at, Order, Taken, Keeps-clashes, Same}
 use Rattle.law.specs.declared.Entry.{Entry}
 use Rattle.law.proofs.Single.{frame, dependence}
@@ -21,7 +21,7 @@ use Rattle.cells.proofs.Telling.{cells-told}
 use Rattle.perform.specs.declared.Answer.{Answer}
 use Rattle.events.specs.declared.Event.{Event}
 use Rattle.events.specs.declared.Report.{Report}
-use Rattle.events.specs.Events.{tree, told, reported, blanks, Does}
+use Rattle.events.specs.Events.{tree, told, filed, blanks, Does}
 use Rattle.events.specs.Rows.{Tellings, trees, Runs, Frames, Depends, Each, Any-order, Prefixes}
 
 pub take-end : {X : Type 0} (xs : List X) (n : ℕ) → length xs ≤ n → take n xs ≡ xs
@@ -35,8 +35,10 @@ take-own : {X : Type 0} (es rest : List X) → take (length es) (es ++ rest) ≡
 take-own [] rest = refl
 take-own (e ∷ es) rest = ap (λ (l : List _). e ∷ l) (take-own es rest)
 
-told-reported : (o : Outcome Cell Answer Refusal) → told (reported o) ≡ report o
-told-reported o = ap (λ (t : List (Entry Cell)). record { end = o .end; trail = t }) (take-own (o .trail) (drop (length (o .trail)) blanks))
+told-filed : (rs : Tellings) → map told (map filed rs) ≡ rs
+told-filed [] = refl
+told-filed (r ∷ rs) =
+    ap₂ (λ (t : List (Entry Cell)) (l : Tellings). record { end = r .end; trail = t } ∷ l) (take-own (r .trail) (drop (length (r .trail)) blanks)) (told-filed rs)
 
 module _ (e : Steps Answer) where
   reports-snoc : (es : List (Steps Answer)) (s : Contents Cell)
@@ -51,16 +53,17 @@ module _ (e : Steps Answer) where
 pub runs-none : (size : ℕ) (s : Contents Cell) → Runs size [] s [] s
 runs-none size s = record { tells = refl; cells = λ x. refl }
 
-pub runs-more : {size : ℕ} {events : List Event} {s s' s'' : Contents Cell} {rs : Tellings} {r : Report} (e : Event)
-    → Runs size events s rs s' → Does (tree size e) s' r s'' → Runs size (events ++ (e ∷ [])) s (rs ++ (told r ∷ [])) s''
+pub runs-more : {size : ℕ} {events : List Event} {s s' s'' : Contents Cell} {rs : List Report} {r : Report} (e : Event)
+    → Runs size events s rs s' → Does (tree size e) s' r s'' → Runs size (events ++ (e ∷ [])) s (rs ++ (r ∷ [])) s''
 runs-more {size = size} {events = events} {s = s} {s' = s'} {s'' = s''} {rs = rs} {r = r} e h d =
     let is : s' ≡ final same (trees size events) s = fun-ext (h .cells) in
     record {
       tells =
-          ap₂ (λ (l : Tellings) (x : Told Cell Answer Refusal). l ++ (x ∷ []))
-          (h .tells) (ap told (d .tells) ∙ told-reported (run same (tree size e) s') ∙ ap (λ (z : Contents Cell). report (run same (tree size e) z)) is)
-          ∙ sym (reports-snoc (tree size e) (trees size events) s)
-          ∙ ap (λ (l : List (Steps Answer)). reports same l s) (sym (map-append (tree size) events (e ∷ [])));
+          ap₂ (λ (l : List Report) (x : Report). l ++ (x ∷ []))
+          (h .tells) (d .tells ∙ ap (λ (z : Contents Cell). filed (report (run same (tree size e) z))) is)
+          ∙ sym (map-append filed (reports same (trees size events) s) (report (run same (tree size e) (final same (trees size events) s)) ∷ []))
+          ∙ ap (map filed) (sym (reports-snoc (tree size e) (trees size events) s)
+          ∙ ap (λ (l : List (Steps Answer)). reports same l s) (sym (map-append (tree size) events (e ∷ []))));
       cells = λ x.
           d .cells x
           ∙ ap (λ (z : Contents Cell). run same (tree size e) z .after x) is
@@ -71,10 +74,10 @@ runs-more {size = size} {events = events} {s = s} {s' = s'} {s'' = s''} {rs = rs
 -- one event more of a list, whose report is written at its place
 pub runs-next : (size now : ℕ) (events : List Event) (s s' s'' : Contents Cell) (rs : List Report) (i : ℕ) (d : Event) (r : Report)
     → i < length events → i < length rs → now ≡ size
-    → Runs size (take i events) s (map told (take i rs)) s' → Does (tree now (getD events i d)) s' r s'' → Runs size (take (i + 1) events) s (map told (take (i + 1) (set rs i r))) s''
+    → Runs size (take i events) s (take i rs) s' → Does (tree now (getD events i d)) s' r s'' → Runs size (take (i + 1) events) s (take (i + 1) (set rs i r)) s''
 runs-next size now events s s' s'' rs i d r he hr n h k =
     let did : Does (tree size (getD events i d)) s' r s'' = subst (λ (z : ℕ). Does (tree z (getD events i d)) s' r s'') n k in
-    rw (add-one i, take-suc events i d he, take-suc-set rs i r hr, map-append told (take i rs) (r ∷ []))
+    rw (add-one i, take-suc events i d he, take-suc-set rs i r hr)
     (runs-more (getD events i d) h did)
 
 pub rest-next : (rs old : List Report) (i : ℕ) (r : Report) → drop i rs ≡ drop i old → drop (i + 1) (set rs i r) ≡ drop (i + 1) old
@@ -121,19 +124,22 @@ module _ {X Y : Type 0} (f : X → Y) where
   taken-map : (p : List ℕ) (xs ys : List X) → Taken p xs ys → Taken p (map f xs) (map f ys)
   taken-map p xs ys h = somes ys ∙ ap (map through) h ∙ at-maps xs p
 
-module _ {size : ℕ} {events : List Event} {s s' : Contents Cell} {rs : Tellings} (h : Runs size events s rs s') where
-  pub frames-hold : Each Frames (trees size events) s rs
-  frames-hold = subst (Each Frames (trees size events) s) (sym (h .tells)) (frames-each (trees size events) s)
+module _ {size : ℕ} {events : List Event} {s s' : Contents Cell} {rs : List Report} (h : Runs size events s rs s') where
+  tells-told : map told rs ≡ reports same (trees size events) s
+  tells-told = ap (map told) (h .tells) ∙ told-filed (reports same (trees size events) s)
 
-  pub depends-hold : Each Depends (trees size events) s rs
-  depends-hold = subst (Each Depends (trees size events) s) (sym (h .tells)) (depends-each (trees size events) s)
+  pub frames-hold : Each Frames (trees size events) s (map told rs)
+  frames-hold = subst (Each Frames (trees size events) s) (sym tells-told) (frames-each (trees size events) s)
+
+  pub depends-hold : Each Depends (trees size events) s (map told rs)
+  depends-hold = subst (Each Depends (trees size events) s) (sym tells-told) (depends-each (trees size events) s)
 
   pub any-order : Any-order size events s rs s'
   any-order p fs t t' qs o keeps taken alike k =
       let o' : Order (length (trees size events)) p = rw length-map o in
       let q = reordering same cells-told (trees size events) (trees size fs) p s t o'
-      (subst (λ (l : Tellings). Keeps-clashes l p) (h .tells) keeps) (taken-map (tree size) p events fs taken) alike in
-      (rw (h .tells, k .tells) (q .0), λ x. h .cells x ∙ q .1 x ∙ sym (k .cells x))
+      (subst (λ (l : Tellings). Keeps-clashes l p) tells-told keeps) (taken-map (tree size) p events fs taken) alike in
+      (rw (h .tells, k .tells) (taken-map filed p (reports same (trees size events) s) (reports same (trees size fs) t) (q .0)), λ x. h .cells x ∙ q .1 x ∙ sym (k .cells x))
 
 reports-take : (k : ℕ) (es : List (Steps Answer)) (s : Contents Cell) → take k (reports same es s) ≡ reports same (take k es) s
 reports-take zero es s = refl
@@ -145,9 +151,11 @@ map-take f zero xs = refl
 map-take f (suc k) [] = refl
 map-take f (suc k) (x ∷ xs) = ap (λ (l : List _). f x ∷ l) (map-take f k xs)
 
-pub prefixes : {size : ℕ} {events : List Event} {s s' : Contents Cell} {rs : Tellings} → Runs size events s rs s' → Prefixes size events s rs
+pub prefixes : {size : ℕ} {events : List Event} {s s' : Contents Cell} {rs : List Report} → Runs size events s rs s' → Prefixes size events s rs
 prefixes {size = size} {events = events} {s = s} h k =
     any-order (record {
-      tells = ap (take k) (h .tells) ∙ reports-take k (trees size events) s ∙ ap (λ (l : List (Steps Answer)). reports same l s) (sym (map-take (tree size) k events));
+      tells =
+          ap (take k) (h .tells) ∙ sym (map-take filed k (reports same (trees size events) s))
+          ∙ ap (map filed) (reports-take k (trees size events) s ∙ ap (λ (l : List (Steps Answer)). reports same l s) (sym (map-take (tree size) k events)));
       cells = λ x. refl;
     })

@@ -24,7 +24,7 @@ use Rattle.machine.specs.declared.Refused.{Refused}
 use Rattle.events.specs.declared.Ask.{Ask}
 use Rattle.events.specs.declared.Ask.the-variants.{Place, Feed, Tick, Start, Kill, Abort, Turn}
 use Rattle.events.specs.declared.Report.{Report}
-use Rattle.events.specs.Events.{asked-tree, blanks, reported, report-of, Does}
+use Rattle.events.specs.Events.{asked-tree, blanks, report-of, Does}
 
 of-counted : (e : Result Answer Refusal) (n : ℕ) (es : List (Entry Cell)) → report-of (counted e n) es ≡ record { end = e; count = n; trail = es }
 of-counted (Ok a) n es = refl

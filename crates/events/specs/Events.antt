@@ -7,8 +7,8 @@ use Rattle.std.specs.declared.result.Result.{Result}
 use Rattle.std.specs.declared.result.Result.the-variants.{Ok, Err}
 use Rattle.law.specs.declared.Entry.{Entry}
 use Rattle.law.specs.declared.Entry.the-variants.{Read}
-use Rattle.law.specs.Trees.{Contents, Outcome, run}
-use Rattle.law.specs.Order.{Report as Told}
+use Rattle.law.specs.Trees.{Contents, run}
+use Rattle.law.specs.Order.{Report as Told, report}
 use Rattle.words.specs.declared.Refusal.{Refusal}
 use Rattle.cells.specs.Cells.{same}
 use Rattle.cells.specs.Runs.{Steps}
@@ -45,9 +45,9 @@ blanks = replicate 200 (Read (Ram 0))
 abbrev pub told : Report → Told Cell Answer Refusal
 told r = record { end = r .end; trail = take (r .count) (r .trail) }
 
--- the report of a run
-abbrev pub reported : Outcome Cell Answer Refusal → Report
-reported o = record { end = o .end; count = length (o .trail); trail = over (o .trail) blanks }
+-- and the other way round: the whole report of what is told
+abbrev pub filed : Told Cell Answer Refusal → Report
+filed r = record { end = r .end; count = length (r .trail); trail = over (r .trail) blanks }
 
 abbrev pub report-of : Result Answered Refused → List (Entry Cell) → Report
 report-of (Ok a) es = record { end = Ok (a .answer); count = a .count; trail = es }
@@ -55,5 +55,5 @@ report-of (Err e) es = record { end = Err (e .refusal); count = e .count; trail 
 
 -- the event m ran from the contents s, reported r and left the contents s'
 pub record Does (m : Steps Answer) (s : Contents Cell) (r : Report) (s' : Contents Cell) : Type 0 where
-  pub tells : r ≡ reported (run same m s)
+  pub tells : r ≡ filed (report (run same m s))
   pub cells : (x : Cell) → s' x ≡ run same m s .after x

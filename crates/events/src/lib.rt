@@ -1,6 +1,6 @@
 // Events as values, and lists of them on one machine.
 ghost use mathlib.Core.Path.{_≡_};
-ghost use mathlib.Core.List.{List, map};
+ghost use mathlib.Core.List.{List};
 ghost use Prim.Native.Nat.{ℕ, _<_, _≤_};
 ghost use lib.ListN.{length, take, drop};
 ghost use Rattle.std.specs.Results.{Cases};
@@ -119,12 +119,12 @@ pub fn run<I: Card, O: Card>(
     reports: &mut [Report],
 ) -> Result<(), NoRoom>
     ensures told { λ r. ⌜ r ≡ room-told (length (now (events .entry))) (length (now (reports .entry))) ⌝ }
-    ensures runs { λ r. ⌜ Cases r (λ _. Runs (length (now (ram .entry))) (now (events .entry)) (cells-of (I·Card .lines) (O·Card .lines) (now (machine .entry)) (now (ram .entry))) (map told (take (length (now (events .entry))) (now (reports .exit)))) (cells-of (I·Card .lines) (O·Card .lines) (now (machine .exit)) (now (ram .exit)))) (λ _. (now (machine .exit) ≡ now (machine .entry)) × (now (ram .exit) ≡ now (ram .entry))) ⌝ }
+    ensures runs { λ r. ⌜ Cases r (λ _. Runs (length (now (ram .entry))) (now (events .entry)) (cells-of (I·Card .lines) (O·Card .lines) (now (machine .entry)) (now (ram .entry))) (take (length (now (events .entry))) (now (reports .exit))) (cells-of (I·Card .lines) (O·Card .lines) (now (machine .exit)) (now (ram .exit)))) (λ _. (now (machine .exit) ≡ now (machine .entry)) × (now (ram .exit) ≡ now (ram .entry))) ⌝ }
     ensures rest { λ r. ⌜ Cases r (λ _. drop (length (now (events .entry))) (now (reports .exit)) ≡ drop (length (now (events .entry))) (now (reports .entry))) (λ _. now (reports .exit) ≡ now (reports .entry)) ⌝ }
-    ensures frame { λ r. ⌜ Cases r (λ _. Frames-each (length (now (ram .entry))) (now (events .entry)) (cells-of (I·Card .lines) (O·Card .lines) (now (machine .entry)) (now (ram .entry))) (map told (take (length (now (events .entry))) (now (reports .exit))))) (λ _. Unit {0}) ⌝ }
-    ensures dependence { λ r. ⌜ Cases r (λ _. Depends-each (length (now (ram .entry))) (now (events .entry)) (cells-of (I·Card .lines) (O·Card .lines) (now (machine .entry)) (now (ram .entry))) (map told (take (length (now (events .entry))) (now (reports .exit))))) (λ _. Unit {0}) ⌝ }
-    ensures order { λ r. ⌜ Cases r (λ _. Any-order (length (now (ram .entry))) (now (events .entry)) (cells-of (I·Card .lines) (O·Card .lines) (now (machine .entry)) (now (ram .entry))) (map told (take (length (now (events .entry))) (now (reports .exit)))) (cells-of (I·Card .lines) (O·Card .lines) (now (machine .exit)) (now (ram .exit)))) (λ _. Unit {0}) ⌝ }
-    ensures prefixes { λ r. ⌜ Cases r (λ _. Prefixes (length (now (ram .entry))) (now (events .entry)) (cells-of (I·Card .lines) (O·Card .lines) (now (machine .entry)) (now (ram .entry))) (map told (take (length (now (events .entry))) (now (reports .exit))))) (λ _. Unit {0}) ⌝ }
+    ensures frame { λ r. ⌜ Cases r (λ _. Frames-each (length (now (ram .entry))) (now (events .entry)) (cells-of (I·Card .lines) (O·Card .lines) (now (machine .entry)) (now (ram .entry))) (take (length (now (events .entry))) (now (reports .exit)))) (λ _. Unit {0}) ⌝ }
+    ensures dependence { λ r. ⌜ Cases r (λ _. Depends-each (length (now (ram .entry))) (now (events .entry)) (cells-of (I·Card .lines) (O·Card .lines) (now (machine .entry)) (now (ram .entry))) (take (length (now (events .entry))) (now (reports .exit)))) (λ _. Unit {0}) ⌝ }
+    ensures order { λ r. ⌜ Cases r (λ _. Any-order (length (now (ram .entry))) (now (events .entry)) (cells-of (I·Card .lines) (O·Card .lines) (now (machine .entry)) (now (ram .entry))) (take (length (now (events .entry))) (now (reports .exit))) (cells-of (I·Card .lines) (O·Card .lines) (now (machine .exit)) (now (ram .exit)))) (λ _. Unit {0}) ⌝ }
+    ensures prefixes { λ r. ⌜ Cases r (λ _. Prefixes (length (now (ram .entry))) (now (events .entry)) (cells-of (I·Card .lines) (O·Card .lines) (now (machine .entry)) (now (ram .entry))) (take (length (now (events .entry))) (now (reports .exit)))) (λ _. Unit {0}) ⌝ }
 {
     if reports.len() < events.len() {
         return Err(NoRoom);

@@ -51,6 +51,7 @@ only-reads [] = []
 only-reads (Read c ∷ t) = Read c ∷ only-reads t
 only-reads (Changed c ∷ t) = only-reads t
 
+-- what is kept of the trail, and what is left in the cells, as the event ended
 abbrev pub kept : {C A R : Type 0} → Result A R → List (Entry C) → List (Entry C)
 kept (Ok a) t = t
 kept (Err r) t = only-reads t
@@ -65,7 +66,7 @@ run same m s =
     let o = go same m s in
     record { end = o .end; trail = kept (o .end) (o .trail); after = left-in (o .end) s (o .after) }
 
--- one event after the other, the second made from the first's answer
+-- one part of an event after another, the second made from the first's answer
 abbrev pub bind : {C A B R : Type 0} → Tree C A R → (A → Tree C B R) → Tree C B R
 bind (ret a) f = f a
 bind (refuse r) f = refuse r

@@ -16,10 +16,11 @@ use Rattle.law.specs.declared.Entry.{Entry}
 use Rattle.words.specs.declared.Reason.the-variants.{RamLength, NoSuchThing, ShortTrail}
 use Rattle.words.specs.declared.Refusal.{Refusal}
 use Rattle.cells.specs.Cells.{same}
-use Rattle.cells.specs.Runs.{Steps, Finds, Goes, Short}
+use Rattle.cells.specs.Runs.{Steps, Finds, Goes}
 use Rattle.cells.specs.Trails.{over, Grows, Fresh}
 use Rattle.cells.specs.declared.Cell.{Cell}
 use Rattle.cells.specs.declared.Trail.{Trail}
+use Rattle.cells.proofs.Bounds.{Short}
 use Rattle.cells.proofs.Noting.{finished}
 use Rattle.perform.specs.declared.Answer.{Answer}
 use Rattle.machine.specs.Calls.{counted, early-refusal, first-tests, Ends, Did}

@@ -1,8 +1,7 @@
 -- No trail of an event passes the 200 entries of the list.
 use Prim.Native.Nat.{ℕ}
 use native.Mathlib.Omega.{arith}
-use Rattle.cells.specs.Runs.{Short}
-use Rattle.cells.proofs.Bounds.{short-ret, short-refuse, short-look, short-change, short-cond, short-bind, shorter}
+use Rattle.cells.proofs.Bounds.{Short, short-ret, short-refuse, short-look, short-change, short-cond, short-bind, shorter}
 use Rattle.plan.proofs.Lengths.{short-plan}
 use Rattle.perform.specs.Perform.{kill as kill-task, abort as abort-task, ticks}
 use Rattle.perform.proofs.Lengths.{short-perform, short-ready, short-abort, short-ticks}

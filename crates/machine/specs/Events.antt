@@ -60,10 +60,11 @@ kill size room t = admitted size room (ltb t 32) (kill-task t)
 abbrev pub abort : ℕ → ℕ → ℕ → Steps Answer
 abort size room t = admitted size room (ltb t 32) (abort-task t)
 
--- one command of task t, if it is ready and has no delay
+-- the command at `site`
 abbrev pub command : ℕ → Site → Steps Answer
 command size site = bind (plan size site) (perform (site .task))
 
+-- one command of task t, if it is ready and has no delay
 abbrev pub cycle : ℕ → ℕ → Steps Answer
 cycle size t =
     look (State t) (λ s. cond (eqb s (state-number state.Idle)) (ret Idle) (

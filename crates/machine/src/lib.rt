@@ -104,13 +104,28 @@ fn launch_task(board: &mut Board, t: u8, address: u16, trail: &mut Trail) -> Res
 impl<I: Card, O: Card> Machine<I, O> {
     // A machine between two cards: its tasks idle, their numbers zero, its flags off.
     pub fn new(inputs: I, outputs: O) -> Machine<I, O>
-        ensures { λ r. ⌜ ((ws : List ℕ) (x : CellOf) → cells-of (I·Card .lines) (O·Card .lines) r ws x ≡ new-cells (I·Card .lines inputs) (O·Card .lines outputs) ws x) ⌝ }
+        ensures cells { λ r. ⌜ ((ws : List ℕ) (x : CellOf) → cells-of (I·Card .lines) (O·Card .lines) r ws x ≡ new-cells (I·Card .lines inputs) (O·Card .lines outputs) ws x) ⌝ }
+        ensures inputs { λ r. ⌜ r .inputs ≡ inputs ⌝ }
+        ensures outputs { λ r. ⌜ r .outputs ≡ outputs ⌝ }
     {
         Machine {
             board: Board::new(),
             inputs,
             outputs,
         }
+    }
+
+    // The cards, for questions of their own.
+    pub fn inputs(&self) -> &I
+        ensures { λ r. ⌜ now r ≡ now (self .entry) .inputs ⌝ }
+    {
+        &self.inputs
+    }
+
+    pub fn outputs(&self) -> &O
+        ensures { λ r. ⌜ now r ≡ now (self .entry) .outputs ⌝ }
+    {
+        &self.outputs
     }
 
     // Asks what a cell holds.

@@ -2,8 +2,7 @@
 use mathlib.Core.Bool.{Bool}
 use Prim.Native.Nat.{ℕ, zero, suc, _*_}
 use native.Mathlib.Omega.{arith}
-use Rattle.cells.specs.Runs.{Short}
-use Rattle.cells.proofs.Bounds.{short-ret, short-look, short-change, short-cond, short-bind, shorter}
+use Rattle.cells.proofs.Bounds.{Short, short-ret, short-look, short-change, short-cond, short-bind, shorter}
 use Rattle.cells.specs.declared.Cell.{Cell}
 use Rattle.plan.specs.declared.Action.{Action}
 use Rattle.plan.specs.declared.Action.the-variants.{Jump, BranchOn, Write, Invert, HaltWhile, EndTask}

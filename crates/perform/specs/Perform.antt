@@ -21,6 +21,16 @@ answer-number Waiting = 2
 answer-number Halted = 3
 answer-number Ran = 4
 
+-- registers with a use of their own: the depth of the stack, the timer and the abort address
+abbrev pub depth : ℕ
+depth = 0x77
+
+abbrev pub timer : ℕ
+timer = 0x78
+
+abbrev pub abort-address : ℕ
+abort-address = 0x7B
+
 -- the last change of a command is that of the place
 abbrev pub move-on : ℕ → ℕ → Steps Answer
 move-on t p = change (Place t) p (ret Ran)
@@ -29,23 +39,23 @@ move-on t p = change (Place t) p (ret Ran)
 abbrev pub kill : ℕ → Steps Answer
 kill t = change (State t) (state-number state.Idle) (ret Done)
 
--- a task is made ready at the address a, with an empty stack, no timer and no abort address
+-- a task is made ready at the address a, with no delay, an empty stack, no timer and no abort address
 abbrev pub ready-at : ℕ → ℕ → Steps Answer
 ready-at t a =
     change (State t) (state-number state.Ready) (
     change (Place t) a (
     change (Delay t) 0 (
-    change (Register t 0x77) 0 (
-    change (Register t 0x78) 0 (
-    change (Register t 0x7B) 0 (
+    change (Register t depth) 0 (
+    change (Register t timer) 0 (
+    change (Register t abort-address) 0 (
     ret Done))))))
 
 -- a task that is not idle jumps to its abort address, or is stopped if that is zero
 abbrev pub abort-to : ℕ → ℕ → Steps Answer
-abort-to t a = cond (eqb a 0) (kill t) (change (Place t) a (change (Register t 0x77) 0 (ret Done)))
+abort-to t a = cond (eqb a 0) (kill t) (change (Place t) a (change (Register t depth) 0 (ret Done)))
 
 abbrev pub abort : ℕ → Steps Answer
-abort t = look (State t) (λ s. cond (eqb s (state-number state.Idle)) (ret Done) (look (Register t 0x7B) (abort-to t)))
+abort t = look (State t) (λ s. cond (eqb s (state-number state.Idle)) (ret Done) (look (Register t abort-address) (abort-to t)))
 
 -- one less, unless it is zero
 abbrev pub count-down : Cell → Steps Answer
@@ -53,7 +63,7 @@ count-down c = look c (λ v. cond (eqb v 0) (ret Done) (change c (v - 1) (ret Do
 
 -- the timer of a task, then its delay
 abbrev pub tick-task : ℕ → Steps Answer
-tick-task t = bind (count-down (Register t 0x78)) (λ _. count-down (Delay t))
+tick-task t = bind (count-down (Register t timer)) (λ _. count-down (Delay t))
 
 -- the first n tasks, in order
 unfoldable pub ticks : ℕ → Steps Answer

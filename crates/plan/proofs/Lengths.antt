@@ -12,8 +12,8 @@ use Rattle.words.specs.declared.Refusal.{Refusal}
 use Rattle.words.specs.declared.Site.{Site}
 use Rattle.words.specs.Codes.{layout}
 use Rattle.words.specs.Words.{head}
-use Rattle.cells.specs.Runs.{lift, Short}
-use Rattle.cells.proofs.Bounds.{short-ret, short-refuse, short-look, short-cond, short-bind}
+use Rattle.cells.specs.Runs.{lift}
+use Rattle.cells.proofs.Bounds.{Short, short-ret, short-refuse, short-look, short-cond, short-bind}
 use Rattle.plan.specs.Actions.{value, take-operands, plan}
 use Rattle.plan.specs.Fetch.{word, jump-word, source-word, operand-words, fetch-from, fetch}
 use Rattle.plan.specs.declared.Fetched.{Fetched}

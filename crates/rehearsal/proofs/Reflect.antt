@@ -36,7 +36,7 @@ use Rattle.events.specs.Events.{tree, told, Does}
 use Rattle.events.specs.Rows.{Tellings, Runs, Any-order}
 use Rattle.events.proofs.Lawful.{runs-more}
 use Rattle.rehearsal.specs.declared.Swap.{Swap}
-use Rattle.rehearsal.specs.Tests.{any, or-else, first, lists?, touch?, hit?, clash?, member?, before?, distinct?, within?, swap?, Fine, Broken}
+use Rattle.rehearsal.specs.Tests.{any, or-else, first, lists?, touch?, hit?, clash?, member?, before?, distinct?, within?, swap?, Fine, Broken, Broken-after}
 use Rattle.rehearsal.specs.Rehearsals.{Is-order, picked, Within, Swapped}
 
 no-way : {P : Type 0} → false ≡ true → P
@@ -262,6 +262,11 @@ swapped-is {rs = rs} {p = p} {w = w} d b =
       is-other = told-at rs (w .second) blank (b .there);
       clash = clash-some (told one .trail) (told other .trail) (w .cell) (r .1);
       swapped = λ z. no-way (sym (r .0) ∙ before-true (w .first) (w .second) p d z);
+      cell-is = r .1;
+      first = λ i j x y l px py e c.
+          let qx = at-told rs i x blank px in
+          let qy = at-told rs j y blank py in
+          fine-before p i j (getD rs i blank) (getD rs j blank) (earlier i j l (qy .0) e blank) (rw (qx .1, qy .1) at c);
     }
   where
     by : (z : Bool) → before? (w .first) (w .second) p ≡ z
@@ -269,6 +274,24 @@ swapped-is {rs = rs} {p = p} {w = w} d b =
         → (before? (w .first) (w .second) p ≡ false) × (clash? (told (getD rs (w .first) blank) .trail) (told (getD rs (w .second) blank) .trail) ≡ Some (w .cell))
     by true q h = found-none (sym h)
     by false q h = (q, h)
+
+    earlier : (i j : ℕ) → i < j → j < length rs → (i < w .first) ⊎ ((i ≡ w .first) × (j < w .second)) → Fine rs p i j
+    earlier i j l m (inl h) = b .before i j h l m
+    earlier i j l m (inr h) =
+        subst (λ (k : ℕ). Fine rs p k j) (sym (h .0)) (b .between j (subst (λ (k : ℕ). k < j) (h .0) l) (h .1))
+
+-- the first pair of all, from the first with an earlier position that was reached
+pub broken-at : {rs : List Report} {p : List ℕ} {i : ℕ} {w : Swap} → Broken-after rs p i w
+    → ((a : ℕ) → a < i → (b : ℕ) → a < b → b < length rs → Fine rs p a b) → Broken rs p w
+broken-at {rs = rs} {p = p} {i = i} {w = w} b inv =
+    let e : i ≡ w .first = sym (b .here) in
+    record {
+      early = subst (λ (k : ℕ). k < w .second) e (b .early);
+      there = b .there;
+      swaps = subst (λ (k : ℕ). (d : Report) → swap? p k (w .second) (getD rs k d) (getD rs (w .second) d) ≡ Some (w .cell)) e (b .swaps);
+      before = subst (λ (k : ℕ). (a c : ℕ) → a < k → a < c → c < length rs → Fine rs p a c) e (λ a c h l m. inv a h c l m);
+      between = subst (λ (k : ℕ). (j : ℕ) → k < j → j < w .second → Fine rs p k j) e (b .between);
+    }
 
 -- an element below a list's length, whatever stands past the end
 at-any : {X : Type 0} (xs : List X) (i : ℕ) (d e : X) → i < length xs → getD xs i d ≡ getD xs i e
@@ -310,14 +333,14 @@ order-within {n = n} {p = p} o k h = o .order .no-other (getD p k 0) (get-in p k
 -- one event more of an order
 pub picks-next : (size now : ℕ) (events : List Event) (p : List ℕ) (s s' s'' : Contents Cell) (rs : List Report) (i : ℕ) (d : Event) (r : Report)
     → i < length p → i < length rs → getD p i 0 < length events → now ≡ size
-    → Runs size (picked events (take i p)) s (map told (take i rs)) s' → Does (tree now (getD events (getD p i 0) d)) s' r s''
-    → Runs size (picked events (take (i + 1) p)) s (map told (take (i + 1) (set rs i r))) s''
+    → Runs size (picked events (take i p)) s (take i rs) s' → Does (tree now (getD events (getD p i 0) d)) s' r s''
+    → Runs size (picked events (take (i + 1) p)) s (take (i + 1) (set rs i r)) s''
 unfolding nothing
 picks-next size now events p s s' s'' rs i d r hp hr he n h k =
     let pick : ℕ → Event = λ i. getD events i nothing in
     let did : Does (tree size (pick (getD p i 0))) s' r s'' =
     subst (λ (e : Event). Does (tree size e) s' r s'') (at-any events (getD p i 0) d nothing he) (subst (λ (z : ℕ). Does (tree z (getD events (getD p i 0) d)) s' r s'') n k) in
-    rw (add-one i, take-suc p i 0 hp, take-suc-set rs i r hr, map-append pick (take i p) (getD p i 0 ∷ []), map-append told (take i rs) (r ∷ []))
+    rw (add-one i, take-suc p i 0 hp, take-suc-set rs i r hr, map-append pick (take i p) (getD p i 0 ∷ []))
     (runs-more (pick (getD p i 0)) h did)
 
 -- machines that hold the same show the same cells
@@ -327,8 +350,8 @@ pub same-start : {I O J P : Type 0} {i : I → List Bool} {o : O → List Bool} 
 same-start e x = λ k. view (e .board k) (e .inputs k) (e .outputs k) (e .words k) x
 
 -- what the law says of the two runs
-pub both-alike : {size size' n : ℕ} (events : List Event) (rs : Tellings) {s s' t t' : Contents Cell} {qs : Tellings} {p : List ℕ}
-    → Any-order size events s rs s' → Is-order n p → n ≡ length events → Keeps-clashes rs p → Runs size' (picked events p) t qs t' → size' ≡ size → Same s t
+pub both-alike : {size size' n : ℕ} (events : List Event) (rs : List Report) {s s' t t' : Contents Cell} {qs : List Report} {p : List ℕ}
+    → Any-order size events s rs s' → Is-order n p → n ≡ length events → Keeps-clashes (map told rs) p → Runs size' (picked events p) t qs t' → size' ≡ size → Same s t
     → Taken p rs qs × Same s' t'
 both-alike {size = size} {size' = size'} {n = n} events rs {s = s} {s' = s'} {t = t} {t' = t'} {qs = qs} {p = p} law ok l keeps runs e equal =
     let o : Order (length events) p = subst (λ (k : ℕ). Order k p) l (ok .order) in

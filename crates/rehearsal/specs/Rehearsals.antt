@@ -5,9 +5,10 @@ use mathlib.Core.List.{List, map}
 use mathlib.Core.Logic.{_⊎_}
 use Prim.Native.Nat.{ℕ, _<_, _≤_}
 use lib.ListN.{length, getD, take, drop}
+use Rattle.std.specs.declared.option.Option.the-variants.{Some}
 use Rattle.std.specs.declared.result.Result.{Result}
 use Rattle.std.specs.declared.result.Result.the-variants.{Ok, Err}
-use Rattle.law.specs.Trees.{Contents, Changes, Lists}
+use Rattle.law.specs.Trees.{Contents, Changes, Lists, Clash}
 use Rattle.law.specs.Order.{Report as Told, at, Before, Order, Taken, Keeps-clashes, Same}
 use Rattle.words.specs.declared.Refusal.{Refusal}
 use Rattle.cells.specs.declared.Cell.{Cell}
@@ -20,6 +21,7 @@ use Rattle.events.specs.Rows.{Tellings, Runs}
 use Rattle.rehearsal.specs.declared.Objection.{Objection}
 use Rattle.rehearsal.specs.declared.Objection.the-variants.{NoRoom, NoOrder, OtherStart, Swaps}
 use Rattle.rehearsal.specs.declared.Swap.{Swap}
+use Rattle.rehearsal.specs.Tests.{clash?}
 
 -- p has each position below n once, and no other
 pub record Is-order (n : ℕ) (p : List ℕ) : Type 0 where
@@ -34,7 +36,8 @@ abbrev pub Within : ℕ → List ℕ → Type 0
 Within n p = (k : ℕ) → k < length p → getD p k 0 < n
 
 -- The reports at two positions clash on a cell: one changes it and the other lists it. The order does not have the
--- earlier before the later.
+-- earlier before the later. Of all such pairs it is the first, by the earlier and then by the later position, and the
+-- cell is the first that the earlier event changes and the later lists, else the first the other way round.
 pub record Swapped (rs : Tellings) (p : List ℕ) (w : Swap) : Type 0 where
   pub early : w .first < w .second
   pub one : Told Cell Answer Refusal
@@ -43,6 +46,9 @@ pub record Swapped (rs : Tellings) (p : List ℕ) (w : Swap) : Type 0 where
   pub is-other : at rs (w .second) ≡ some other
   pub clash : (Changes (w .cell) (one .trail) × Lists (w .cell) (other .trail)) ⊎ (Lists (w .cell) (one .trail) × Changes (w .cell) (other .trail))
   pub swapped : ¬ Before (w .first) (w .second) p
+  pub cell-is : clash? (one .trail) (other .trail) ≡ Some (w .cell)
+  pub first : (i j : ℕ) (a b : Told Cell Answer Refusal) → i < j → at rs i ≡ some a → at rs j ≡ some b
+      → (i < w .first) ⊎ ((i ≡ w .first) × (j < w .second)) → Clash (a .trail) (b .trail) → Before i j p
 
 -- What a rehearsal answers, and why. `equal` says that the two machines start with equal cells, and rs is what the
 -- events came to on the first. The tests are made in this order.

@@ -11,7 +11,7 @@ ghost use Rattle.law.specs.Order.{Taken, Same};
 ghost use Rattle.machine.specs.Calls.{cells-of, Equal};
 ghost use Rattle.events.specs.Events.{told};
 ghost use Rattle.events.specs.Rows.{Runs, Any-order};
-ghost use Rattle.rehearsal.specs.Tests.{lists?, touch?, hit?, clash?, member?, before?, distinct?, within?, swap?, Fine, Broken};
+ghost use Rattle.rehearsal.specs.Tests.{lists?, touch?, hit?, clash?, member?, before?, distinct?, within?, swap?, Fine, Broken, Broken-after};
 ghost use Rattle.rehearsal.specs.Rehearsals.{Is-order, picked, Within, Room, Verdict, If-first};
 use cards::Card;
 use cells::Cell;
@@ -171,7 +171,7 @@ fn swap_of(order: &[usize], i: usize, j: usize, a: &Report, b: &Report) -> Optio
 // Report i against those after it.
 fn swap_after(reports: &[Report], order: &[usize], i: usize) -> Option<Swap>
     requires { ⌜ i < length (now reports) ⌝ }
-    ensures { λ r. ⌜ Cases r ((j : ℕ) → i < j → j < length (now (reports .entry)) → Fine (now (reports .entry)) (now (order .entry)) i j) (Broken (now (reports .entry)) (now (order .entry))) ⌝ }
+    ensures { λ r. ⌜ Cases r ((j : ℕ) → i < j → j < length (now (reports .entry)) → Fine (now (reports .entry)) (now (order .entry)) i j) (Broken-after (now (reports .entry)) (now (order .entry)) i) ⌝ }
 {
     for j in i + 1..reports.len() {
         if let Some(cell) = swap_of(order, i, j, &reports[i], &reports[j]) {
@@ -206,7 +206,7 @@ fn run_in<I: Card, O: Card>(
 )
     requires room { ⌜ length (now order) ≤ length (now reports) ⌝ }
     requires within { ⌜ Within (length (now events)) (now order) ⌝ }
-    ensures runs { λ _. ⌜ Runs (length (now (ram .entry))) (picked (now (events .entry)) (now (order .entry))) (cells-of (I·Card .lines) (O·Card .lines) (now (machine .entry)) (now (ram .entry))) (map told (take (length (now (order .entry))) (now (reports .exit)))) (cells-of (I·Card .lines) (O·Card .lines) (now (machine .exit)) (now (ram .exit))) ⌝ }
+    ensures runs { λ _. ⌜ Runs (length (now (ram .entry))) (picked (now (events .entry)) (now (order .entry))) (cells-of (I·Card .lines) (O·Card .lines) (now (machine .entry)) (now (ram .entry))) (take (length (now (order .entry))) (now (reports .exit))) (cells-of (I·Card .lines) (O·Card .lines) (now (machine .exit)) (now (ram .exit))) ⌝ }
     ensures rest { λ _. ⌜ drop (length (now (order .entry))) (now (reports .exit)) ≡ drop (length (now (order .entry))) (now (reports .entry)) ⌝ }
 {
     for i in 0..order.len() {
@@ -222,9 +222,9 @@ fn run_all<I: Card, O: Card>(
     reports: &mut [Report],
 )
     requires { ⌜ length (now events) ≤ length (now reports) ⌝ }
-    ensures runs { λ _. ⌜ Runs (length (now (ram .entry))) (now (events .entry)) (cells-of (I·Card .lines) (O·Card .lines) (now (machine .entry)) (now (ram .entry))) (map told (take (length (now (events .entry))) (now (reports .exit)))) (cells-of (I·Card .lines) (O·Card .lines) (now (machine .exit)) (now (ram .exit))) ⌝ }
+    ensures runs { λ _. ⌜ Runs (length (now (ram .entry))) (now (events .entry)) (cells-of (I·Card .lines) (O·Card .lines) (now (machine .entry)) (now (ram .entry))) (take (length (now (events .entry))) (now (reports .exit))) (cells-of (I·Card .lines) (O·Card .lines) (now (machine .exit)) (now (ram .exit))) ⌝ }
     ensures rest { λ _. ⌜ drop (length (now (events .entry))) (now (reports .exit)) ≡ drop (length (now (events .entry))) (now (reports .entry)) ⌝ }
-    ensures order { λ _. ⌜ Any-order (length (now (ram .entry))) (now (events .entry)) (cells-of (I·Card .lines) (O·Card .lines) (now (machine .entry)) (now (ram .entry))) (map told (take (length (now (events .entry))) (now (reports .exit)))) (cells-of (I·Card .lines) (O·Card .lines) (now (machine .exit)) (now (ram .exit))) ⌝ }
+    ensures order { λ _. ⌜ Any-order (length (now (ram .entry))) (now (events .entry)) (cells-of (I·Card .lines) (O·Card .lines) (now (machine .entry)) (now (ram .entry))) (take (length (now (events .entry))) (now (reports .exit))) (cells-of (I·Card .lines) (O·Card .lines) (now (machine .exit)) (now (ram .exit))) ⌝ }
 {
     match run(machine, ram, events, reports) {
         Ok(()) => {}
@@ -245,9 +245,9 @@ pub fn rehearse<I: Card, O: Card, J: Card, P: Card>(
     reports2: &mut [Report],
 ) -> Result<(), Objection>
     ensures verdict { λ r. ⌜ Verdict (Room (length (now (events .entry))) (length (now (reports1 .entry))) (length (now (reports2 .entry)))) (Is-order (length (now (events .entry))) (now (order .entry))) (Equal (I·Card .lines) (O·Card .lines) (J·Card .lines) (P·Card .lines) (now (first .entry)) (now (ram1 .entry)) (now (second .entry)) (now (ram2 .entry))) (map told (take (length (now (events .entry))) (now (reports1 .exit)))) (now (order .entry)) r ⌝ }
-    ensures first { λ r. ⌜ If-first r (Runs (length (now (ram1 .entry))) (now (events .entry)) (cells-of (I·Card .lines) (O·Card .lines) (now (first .entry)) (now (ram1 .entry))) (map told (take (length (now (events .entry))) (now (reports1 .exit)))) (cells-of (I·Card .lines) (O·Card .lines) (now (first .exit)) (now (ram1 .exit))) × (drop (length (now (events .entry))) (now (reports1 .exit)) ≡ drop (length (now (events .entry))) (now (reports1 .entry)))) ((now (first .exit) ≡ now (first .entry)) × (now (ram1 .exit) ≡ now (ram1 .entry)) × (now (reports1 .exit) ≡ now (reports1 .entry))) ⌝ }
-    ensures second { λ r. ⌜ AsResult r (λ _. Runs (length (now (ram2 .entry))) (picked (now (events .entry)) (now (order .entry))) (cells-of (J·Card .lines) (P·Card .lines) (now (second .entry)) (now (ram2 .entry))) (map told (take (length (now (events .entry))) (now (reports2 .exit)))) (cells-of (J·Card .lines) (P·Card .lines) (now (second .exit)) (now (ram2 .exit))) × (drop (length (now (events .entry))) (now (reports2 .exit)) ≡ drop (length (now (events .entry))) (now (reports2 .entry)))) (λ _. (now (second .exit) ≡ now (second .entry)) × (now (ram2 .exit) ≡ now (ram2 .entry)) × (now (reports2 .exit) ≡ now (reports2 .entry))) ⌝ }
-    ensures alike { λ r. ⌜ AsResult r (λ _. Taken (now (order .entry)) (map told (take (length (now (events .entry))) (now (reports1 .exit)))) (map told (take (length (now (events .entry))) (now (reports2 .exit)))) × Same (cells-of (I·Card .lines) (O·Card .lines) (now (first .exit)) (now (ram1 .exit))) (cells-of (J·Card .lines) (P·Card .lines) (now (second .exit)) (now (ram2 .exit)))) (λ _. Unit {0}) ⌝ }
+    ensures first { λ r. ⌜ If-first r (Runs (length (now (ram1 .entry))) (now (events .entry)) (cells-of (I·Card .lines) (O·Card .lines) (now (first .entry)) (now (ram1 .entry))) (take (length (now (events .entry))) (now (reports1 .exit))) (cells-of (I·Card .lines) (O·Card .lines) (now (first .exit)) (now (ram1 .exit))) × (drop (length (now (events .entry))) (now (reports1 .exit)) ≡ drop (length (now (events .entry))) (now (reports1 .entry)))) ((now (first .exit) ≡ now (first .entry)) × (now (ram1 .exit) ≡ now (ram1 .entry)) × (now (reports1 .exit) ≡ now (reports1 .entry))) ⌝ }
+    ensures second { λ r. ⌜ AsResult r (λ _. Runs (length (now (ram2 .entry))) (picked (now (events .entry)) (now (order .entry))) (cells-of (J·Card .lines) (P·Card .lines) (now (second .entry)) (now (ram2 .entry))) (take (length (now (events .entry))) (now (reports2 .exit))) (cells-of (J·Card .lines) (P·Card .lines) (now (second .exit)) (now (ram2 .exit))) × (drop (length (now (events .entry))) (now (reports2 .exit)) ≡ drop (length (now (events .entry))) (now (reports2 .entry)))) (λ _. (now (second .exit) ≡ now (second .entry)) × (now (ram2 .exit) ≡ now (ram2 .entry)) × (now (reports2 .exit) ≡ now (reports2 .entry))) ⌝ }
+    ensures alike { λ r. ⌜ AsResult r (λ _. Taken (now (order .entry)) (take (length (now (events .entry))) (now (reports1 .exit))) (take (length (now (events .entry))) (now (reports2 .exit))) × Same (cells-of (I·Card .lines) (O·Card .lines) (now (first .exit)) (now (ram1 .exit))) (cells-of (J·Card .lines) (P·Card .lines) (now (second .exit)) (now (ram2 .exit)))) (λ _. Unit {0}) ⌝ }
 {
     if reports1.len() < events.len() {
         return Err(Objection::NoRoom);

@@ -21,9 +21,9 @@ use Rattle.words.specs.Words.{refusal-at}
 -- the modes that an operand may have
 abbrev pub admits : Role → ℕ → Bool
 admits Unused m = eqb m 0
-admits Offset m = eqb m 0 || (eqb m 3 || (eqb m 12 || eqb m 13))
-admits ReadBase m = eqb m 12 || (eqb m 13 || eqb m 14)
-admits WrittenBase m = eqb m 13 || eqb m 14
+admits Offset m = eqb m 0 || (eqb m 3 || (eqb m 0xC || eqb m 0xD))
+admits ReadBase m = eqb m 0xC || (eqb m 0xD || eqb m 0xE)
+admits WrittenBase m = eqb m 0xD || eqb m 0xE
 
 -- the operand that a wrong mode is charged to
 abbrev pub at-fault : Role → ℕ → ℕ
@@ -63,6 +63,7 @@ layout c =
     (cond (eqb c 0x50) (bare true)
     (bare false))))
 
+-- TBR0, TBR1, SBIT, CBIT, IBIT, THT0, THT1, BRA and JSKI
 abbrev pub command : ℕ → Option Command
 command c =
     cond (eqb c 0x10) (Some (BranchOn false))

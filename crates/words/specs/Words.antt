@@ -27,7 +27,7 @@ low w = w % 256
 
 -- a byte widened to a word by its sign
 abbrev pub widened : ℕ → ℕ
-widened b = cond (ltb b 128) b (b + 65280)
+widened b = cond (ltb b 128) b (b + 0xFF00)
 
 -- a part of a word that must be so, or the operand is refused
 abbrev pub must : {A : Type 0} → Bool → Site → ℕ → Result A Refusal → Result A Refusal
@@ -38,13 +38,13 @@ abbrev pub source : ℕ → ℕ → Site → ℕ → Result Operand Refusal
 source mode w site operand =
     cond (eqb mode 0) (Ok (Immediate w))
     (cond (eqb mode 3) (must (eqb (high w) 0) site operand (must (ltb (low w) 128) site operand (Ok (Register (low w)))))
-    (cond (eqb mode 12) (must (eqb (low w) 0) site operand (Ok (Immediate (widened (high w)))))
-    (cond (eqb mode 13) (must (ltb (high w) 128) site operand (must (eqb (low w) 0) site operand (Ok (Register (high w)))))
+    (cond (eqb mode 0xC) (must (eqb (low w) 0) site operand (Ok (Immediate (widened (high w)))))
+    (cond (eqb mode 0xD) (must (ltb (high w) 128) site operand (must (eqb (low w) 0) site operand (Ok (Register (high w)))))
     (Err (refusal-at site WrongMode operand)))))
 
 -- the lines that a base's mode stands for
 abbrev pub base : ℕ → Operand
-base mode = cond (eqb mode 12) Inputs (cond (eqb mode 13) Outputs (cond (eqb mode 14) Flags Absent))
+base mode = cond (eqb mode 0xC) Inputs (cond (eqb mode 0xD) Outputs (cond (eqb mode 0xE) Flags Absent))
 
 -- an operand names a register that there is
 abbrev pub Known : Operand → Type 0

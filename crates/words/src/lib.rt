@@ -123,9 +123,9 @@ impl Role {
     {
         match self {
             Role::Unused => mode == 0,
-            Role::Offset => mode == 0 || mode == 3 || mode == 12 || mode == 13,
-            Role::ReadBase => mode == 12 || mode == 13 || mode == 14,
-            Role::WrittenBase => mode == 13 || mode == 14,
+            Role::Offset => mode == 0 || mode == 3 || mode == 0xC || mode == 0xD,
+            Role::ReadBase => mode == 0xC || mode == 0xD || mode == 0xE,
+            Role::WrittenBase => mode == 0xD || mode == 0xE,
         }
     }
 
@@ -300,7 +300,7 @@ fn widen(byte: u8) -> u16
     if byte < 128 {
         byte as u16
     } else {
-        byte as u16 + 0xff00
+        byte as u16 + 0xFF00
     }
 }
 
@@ -325,8 +325,8 @@ pub fn source_operand(mode: u8, word: u16, site: Site, operand: u8) -> Result<Op
     match mode {
         0 => Ok(Operand::Immediate(word)),
         3 if high == 0 && low < 128 => Ok(Operand::Register(low)),
-        12 if low == 0 => Ok(Operand::Immediate(widen(high))),
-        13 if high < 128 && low == 0 => Ok(Operand::Register(high)),
+        0xC if low == 0 => Ok(Operand::Immediate(widen(high))),
+        0xD if high < 128 && low == 0 => Ok(Operand::Register(high)),
         _ => Err(site.refusal(Reason::WrongMode, operand)),
     }
 }
@@ -336,9 +336,9 @@ pub fn base_operand(mode: u8) -> Operand
     ensures { λ r. ⌜ r ≡ base mode ⌝ }
 {
     match mode {
-        12 => Operand::Inputs,
-        13 => Operand::Outputs,
-        14 => Operand::Flags,
+        0xC => Operand::Inputs,
+        0xD => Operand::Outputs,
+        0xE => Operand::Flags,
         _ => Operand::Absent,
     }
 }

@@ -1,9 +1,7 @@
 use mathlib.Core.Path.{_≡_, refl, sym, ap, subst}
-use mathlib.Core.List.{map}
 use Prim.Native.Nat.{ℕ, _-_, _<_}
 use native.Mathlib.Omega.{arith}
 use lib.ListN.{length, take}
-use Rattle.events.specs.Events.{told}
 use Rattle.rehearsal.specs.Tests.{Fine, Broken}
 use Rattle.rehearsal.specs.Rehearsals.{no-room, no-order, other-start, swaps, alike, Room}
 use Rattle.rehearsal.proofs.Reflect.{keeps-is, swapped-is, order-within, same-start, both-alike, no-case′}
@@ -72,5 +70,5 @@ returns g c =
       verdict = alike (record { one = c .if-reports1-events .left; two = c .if-reports2-events .left }) ok equal keeps;
       first = (c .run-all .ensures .runs, c .run-all .ensures .rest);
       second = (runs, rw n at (c .run-in .ensures .rest));
-      alike = both-alike (c .args .events .now) (map told (take (length (c .args .events .now)) (c .run-all .last .reports))) (c .run-all .ensures .order) ok refl keeps runs (ap length (sym (equal .words))) (same-start equal);
+      alike = both-alike (c .args .events .now) (take (length (c .args .events .now)) (c .run-all .last .reports)) (c .run-all .ensures .order) ok refl keeps runs (ap length (sym (equal .words))) (same-start equal);
     }
