@@ -1,5 +1,5 @@
 #!/usr/bin/env bash
-# Proves and builds the bench, and runs it on the homing task.
+# Proves and builds the bench, and runs it.
 set -eu
 cd "$(dirname "$0")"
 mkdir -p target
