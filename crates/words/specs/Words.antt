@@ -4,6 +4,7 @@ use Prim.Native.Nat.{ℕ, _+_, _/_, _%_, _<_}
 use lib.Dec.{eqb, ltb}
 use Rattle.std.specs.declared.result.Result.{Result}
 use Rattle.std.specs.declared.result.Result.the-variants.{Ok, Err}
+use Rattle.words.specs.declared.Control.{Control}
 use Rattle.words.specs.declared.Head.{Head}
 use Rattle.words.specs.declared.Operand.{Operand}
 use Rattle.words.specs.declared.Operand.the-variants.{Absent, Immediate, Register, Inputs, Outputs, Flags}
@@ -18,6 +19,10 @@ refusal-at site why operand = record { reason = why; task = site .task; place = 
 -- a head holds the code in its high byte, then the mode of the source and that of the destination, four bits each
 abbrev pub head : ℕ → Head
 head w = record { code = w / 256; source = w / 16 % 16; destination = w % 16 }
+
+-- a control word is laid out like a head, with a byte that must be 00 in the place of the code
+abbrev pub control : ℕ → Control
+control w = record { fixed = w / 256; source = w / 16 % 16; destination = w % 16 }
 
 abbrev pub high : ℕ → ℕ
 high w = w / 256

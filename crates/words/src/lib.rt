@@ -4,7 +4,7 @@ ghost use Prim.Native.Nat.{_%_};
 ghost use Rattle.std.specs.Results.{Cases};
 ghost use Rattle.words.specs.Numbers.{reason-number};
 ghost use Rattle.words.specs.Codes.{admits, at-fault, before-data, length-of, layout, decoded};
-ghost use Rattle.words.specs.Words.{Known, refusal-at, high, low, head, widened, source, base};
+ghost use Rattle.words.specs.Words.{Known, refusal-at, high, low, head, control, widened, source, base};
 
 // Why a call is refused.
 #[derive(Clone, Copy)]
@@ -104,6 +104,31 @@ impl Head {
             code: high_byte(word),
             source: low_digit(word >> 4),
             destination: low_digit(word),
+        }
+    }
+}
+
+// The word after the head of a command of two pairs: its high byte is fixed, and its modes are those of the second pair.
+#[derive(Clone, Copy)]
+pub struct Control {
+    pub fixed: u8,
+    pub source: u8,
+    pub destination: u8,
+}
+
+impl Control {
+    pub fn new(word: u16) -> Control
+        ensures { λ r. ⌜ r ≡ control word ⌝ }
+    {
+        let Head {
+            code,
+            source,
+            destination,
+        } = Head::new(word);
+        Control {
+            fixed: code,
+            source,
+            destination,
         }
     }
 }
