@@ -1,5 +1,5 @@
 -- How code follows a tree, a step at a time.
-use Rattle.std.proofs.Common.{◌≡◌, ℕ, List, [], ◌∷◌, ◌++◌, IsErrAnd, Ok, Err, Result, sym, refl, ap, ◌∙◌, subst, ap₂, arith}
+use Rattle.std.proofs.Common.{◌≡◌, ℕ, List, [], ◌∷◌, ◌++◌, IsErrAnd, Ok, Err, Result, sym, refl, ap, ◌∙◌, subst, ap₂}
 use Rattle.law.specs.declared.Entry.{Entry}
 use Rattle.law.specs.declared.Entry.TheVariants.{Read, Changed}
 use Rattle.law.specs.Trees.{Tree, ret, refuse, look, change, Contents, Outcome, poke, go, go_on, bind, only_reads}
@@ -8,18 +8,18 @@ use Rattle.words.specs.declared.Refusal.{Refusal}
 use Rattle.cells.specs.declared.Cell.{Cell}
 use Rattle.cells.specs.declared.Trail.{Trail}
 use Rattle.cells.specs.Cells.{same}
-use Rattle.cells.specs.Trails.{Adds, Grows}
+use Rattle.cells.specs.Trails.{Grows}
 use Rattle.std.proofs.lemmas.Result.{err_from_is_err_and}
-use Rattle.cells.specs.Runs.{Steps, lift, Sees, Pokes, Finds, Refuses, Goes}
-use Rattle.cells.proofs.Noting.{adds_both, grows_none, grows_both}
+use Rattle.cells.specs.Runs.{Steps, lift, Sees, Pokes, Finds, Goes}
+use Rattle.cells.proofs.Noting.{grows_none, grows_both}
 
-pub reads_both : (t u : List (Entry Cell)) → only_reads (t ++ u) ≡ only_reads t ++ only_reads u
+reads_both : (t u : List (Entry Cell)) → only_reads (t ++ u) ≡ only_reads t ++ only_reads u
 reads_both [] u = refl
 reads_both (Read c ∷ t) u = ap (λ (l : List (Entry Cell)). Read c ∷ l) (reads_both t u)
 reads_both (Changed c ∷ t) u = reads_both t u
 
 -- the run of a tree joined to another, where the first ended in an answer
-pub joined : {A B : Type 0} (m : Steps A) (f : A → Steps B) (s s' : Contents Cell) (a : A)
+joined : {A B : Type 0} (m : Steps A) (f : A → Steps B) (s s' : Contents Cell) (a : A)
     → (go same m s).end ≡ Ok a → (go same m s).after ≡ s'
     → go same (bind m f) s ≡ go_on same (Ok a) (go same m s).trail s' f
 joined m f s s' a e k =
@@ -27,7 +27,7 @@ joined m f s s' a e k =
     ∙ ap₂ (λ (r : Result _ Refusal) (z : Contents Cell). go_on same r (go same m s).trail z f) e k
 
 -- where it ended in a refusal
-pub stopped : {A B : Type 0} (m : Steps A) (f : A → Steps B) (s s' : Contents Cell) (r : Refusal)
+stopped : {A B : Type 0} (m : Steps A) (f : A → Steps B) (s s' : Contents Cell) (r : Refusal)
     → (go same m s).end ≡ Err r → (go same m s).after ≡ s'
     → go same (bind m f) s ≡ record { end = Err r; trail = (go same m s).trail; after = s' }
 stopped m f s s' r e k =
@@ -51,29 +51,6 @@ module _ {A : Type 0} where
         reads = ap (λ (l : List (Entry Cell)). Read c ∷ l) g.reads;
         grows = grows_both (Read c ∷ []) (go same (k (s c)) s).trail see.grows g.grows;
       }
-
-  pub refuse_look : {c : Cell} {k : ℕ → Steps A} {s : Contents Cell} {v : ℕ} {t t1 t' : Trail} {e : Refusal}
-      → Sees s c v t t1 → Refuses (k v) s t1 e t' → Refuses (look c k) s t e t'
-  refuse_look {c = c} {k = k} {s = s} {t = t} {t1 = t1} {t' = t'} {e = e} see f =
-      let g : Refuses (k (s c)) s t1 e t' = subst (λ (n : ℕ). Refuses (k n) s t1 e t') see.value f in
-      record {
-        ends = g.ends;
-        adds = λ h.
-            let first = see.grows.adds (omega arith) in
-            adds_both (Read c ∷ []) (only_reads (go same (k (s c)) s).trail) first (g.adds (omega (arith, first.count, see.grows.size)));
-        size = g.size ∙ see.grows.size;
-        loan = g.loan ∙ see.grows.loan;
-      }
-
-  -- what was found to be refused
-  pub find_refuses : {m : Steps A} {s : Contents Cell} {t t' : Trail} {e : Refusal} → Finds m s t (Err e) t' → Refuses m s t e t'
-  find_refuses {m = m} {s = s} {t = t} {t' = t'} f = record {
-    ends = f.ends;
-    adds = λ h.
-        subst (λ (es : List (Entry Cell)). Adds es t.entries.now t.count t'.entries.now t'.count) (sym f.reads) (f.grows.adds h);
-    size = f.grows.size;
-    loan = f.grows.loan;
-  }
 
   pub go_ret : {a : A} {s : Contents Cell} {t : Trail} → Goes (ret a) s t a s t
   go_ret {t = t} = record { ends = refl; after = refl; grows = grows_none t }

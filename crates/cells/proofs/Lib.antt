@@ -2,4 +2,3 @@ pub mod Noting
 pub mod Following
 pub mod Bounds
 pub mod Telling
-pub mod Shifting

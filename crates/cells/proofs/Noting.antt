@@ -16,7 +16,7 @@ past_push old xs n e h =
 then : (w e f : Entries) {x y : Entries} → x ≡ w ++ e → y ≡ x ++ f → y ≡ w ++ (e ++ f)
 then w e f q p = p ∙ ap (λ (l : Entries). l ++ f) q ∙ append_assoc w e f
 
-pub adds_both : (e f : Entries) {xs xs' xs'' : Entries} {n n' n'' : ℕ} → Adds e xs n xs' n' → Adds f xs' n' xs'' n'' → Adds (e ++ f) xs n xs'' n''
+adds_both : (e f : Entries) {xs xs' xs'' : Entries} {n n' n'' : ℕ} → Adds e xs n xs' n' → Adds f xs' n' xs'' n'' → Adds (e ++ f) xs n xs'' n''
 adds_both e f {xs} {n = n} a b = record {
   written = then (take n xs) e f a.written b.written;
   count = omega (arith, a.count, b.count, length-append e f);
@@ -47,16 +47,12 @@ over_all es old xs n k p q =
     sym (take-append-drop n xs) ∙ ap (λ (l : Entries). l ++ drop n xs) p ∙ ap (λ (l : Entries). es ++ l) q
 
 -- what a trail that was begun over the loan x leaves
-pub finished : (es : Entries) {x : Bor Entries} {t : Trail} (t' : Trail) → Fresh x t → Adds es t.entries.now t.count t'.entries.now t'.count
+pub finished : (es : Entries) {x : Bor Entries} {t t' : Trail} → Fresh x t → Grows es t t' → length es ≤ length x.now
     → (t'.entries.now ≡ over es x.now) × (t'.count ≡ length es)
-finished es {x} {t} t' fresh a =
+finished es {x} {t} {t'} fresh grows room =
+    let long : length t.entries.now ≡ length x.now = ap length fresh.entries in
+    let a = grows.adds (omega (arith, fresh.count, long)) in
     let c : t'.count ≡ length es = omega (arith, a.count, fresh.count) in
     let w : take t'.count t'.entries.now ≡ es = a.written ∙ ap (λ k. take k t.entries.now ++ es) fresh.count in
     let p = a.past x.now (ap (λ (l : Entries). drop t.count l) fresh.entries) in
     (over_all es x.now t'.entries.now t'.count (sym c) w p ∙ ap (λ k. es ++ drop k x.now) c, c)
-
--- a trail at its start has all its room
-pub has_room : {x : Bor Entries} {t : Trail} (n : ℕ) → Fresh x t → n ≤ length x.now → t.count + n ≤ length t.entries.now
-has_room {x} {t} n fresh h =
-    let long : length t.entries.now ≡ length x.now = ap length fresh.entries in
-    omega (arith, fresh.count, long)

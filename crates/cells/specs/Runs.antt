@@ -1,12 +1,12 @@
 -- How code follows a tree.
-use Rattle.std.specs.Prelude.{◌≡◌, ℕ, ◌+◌, ◌≤◌, List, [], ◌∷◌, length, Ok, Err, Result}
+use Rattle.std.specs.Prelude.{◌≡◌, ℕ, List, [], ◌∷◌, Ok, Err, Result}
 use Rattle.law.specs.declared.Entry.TheVariants.{Read, Changed}
 use Rattle.law.specs.Trees.{Tree, ret, refuse, Contents, poke, go, only_reads}
 use Rattle.words.specs.declared.Refusal.{Refusal}
 use Rattle.cells.specs.declared.Cell.{Cell}
 use Rattle.cells.specs.declared.Trail.{Trail}
 use Rattle.cells.specs.Cells.{same}
-use Rattle.cells.specs.Trails.{Adds, Grows}
+use Rattle.cells.specs.Trails.{Grows}
 
 -- trees of this machine's cells and refusals
 abbrev pub Steps : Type 0 → Type 0
@@ -33,15 +33,6 @@ pub record Finds {A : Type 0} (m : Steps A) (s : Contents Cell) (t : Trail) (r :
   pub after : (go same m s).after ≡ s
   pub reads : only_reads (go same m s).trail ≡ (go same m s).trail
   pub grows : Grows (go same m s).trail t t'
-
--- code came from the trail t to t' and refused by e: the reads that the tree made so far were added, where the list has
--- room for all that it listed
-pub record Refuses {A : Type 0} (m : Steps A) (s : Contents Cell) (t : Trail) (e : Refusal) (t' : Trail) : Type 0 where
-  pub ends : (go same m s).end ≡ Err e
-  pub adds : t.count + length (go same m s).trail ≤ length t.entries.now
-      → Adds (only_reads (go same m s).trail) t.entries.now t.count t'.entries.now t'.count
-  pub size : length t'.entries.now ≡ length t.entries.now
-  pub loan : t'.entries.ghost_name ≡ t.entries.ghost_name
 
 -- code that never refuses came from the contents s and the trail t to s' and t', and returned a
 pub record Goes {A : Type 0} (m : Steps A) (s : Contents Cell) (t : Trail) (a : A) (s' : Contents Cell) (t' : Trail) : Type 0 where

@@ -1,5 +1,5 @@
 -- A list that is lent for a trail: entries are written over it, from its start.
-use Rattle.std.specs.Prelude.{◌≡◌, ℕ, ◌+◌, ◌<◌, ◌≤◌, List, [], ◌∷◌, ◌++◌, length, take, drop}
+use Rattle.std.specs.Prelude.{◌≡◌, ℕ, ◌+◌, ◌≤◌, List, [], ◌∷◌, ◌++◌, length, take, drop}
 use Rattle.std.specs.Borrow.{MutBor}
 use Rattle.law.specs.declared.Entry.{Entry}
 use Rattle.cells.specs.declared.Cell.{Cell}
@@ -18,22 +18,6 @@ pub record Adds (es : List (Entry Cell)) (xs : List (Entry Cell)) (n : ℕ) (xs'
 -- The same of a trail, where it has room for them. It stays the same loan.
 pub record Grows (es : List (Entry Cell)) (t t' : Trail) : Type 0 where
   pub adds : t.count + length es ≤ length t.entries.now → Adds es t.entries.now t.count t'.entries.now t'.count
-  pub size : length t'.entries.now ≡ length t.entries.now
-  pub loan : t'.entries.ghost_name ≡ t.entries.ghost_name
-
--- a list with an entry put in before those from the place n on
-abbrev pub insert : ℕ → Entry Cell → List (Entry Cell) → List (Entry Cell)
-insert n e xs = take n xs ++ (e ∷ drop n xs)
-
--- The entry e was put in at the place `at`: xs with n entries written became xs' with n', and nothing past those changed.
-pub record Puts (at : ℕ) (e : Entry Cell) (xs : List (Entry Cell)) (n : ℕ) (xs' : List (Entry Cell)) (n' : ℕ) : Type 0 where
-  pub written : take n' xs' ≡ insert at e (take n xs)
-  pub count : n' ≡ n + 1
-  pub past : (old : List (Entry Cell)) → drop n xs ≡ drop n old → drop n' xs' ≡ drop n' old
-
--- The same of a trail, where it has room and the place is not past its entries. It stays the same loan.
-pub record Inserts (at : ℕ) (e : Entry Cell) (t t' : Trail) : Type 0 where
-  pub puts : at ≤ t.count → t.count < length t.entries.now → Puts at e t.entries.now t.count t'.entries.now t'.count
   pub size : length t'.entries.now ≡ length t.entries.now
   pub loan : t'.entries.ghost_name ≡ t.entries.ghost_name
 

@@ -1,7 +1,7 @@
 // The cells of a machine, and the trail that lists those which an event reads and changes.
-ghost use Rattle.std.specs.Prelude.{◌≡◌, ◌+◌, ◌<◌, ◌≤◌, [], ◌∷◌, length, take, drop, IfSome};
+ghost use Rattle.std.specs.Prelude.{◌≡◌, [], ◌∷◌, IfSome};
 ghost use Rattle.cells.specs.Cells.{kind_number, kind_of, task_of, number_of, same, There, named};
-ghost use Rattle.cells.specs.Trails.{Fresh, Grows, insert, Inserts};
+ghost use Rattle.cells.specs.Trails.{Fresh, Grows};
 
 use law::Entry;
 
@@ -149,31 +149,4 @@ impl<'a> Trail<'a> {
             self.count += 1;
         }
     }
-
-    // Puts an entry in before those from `at` on. A list that is full stays as it is, and so does one of fewer entries.
-    pub fn insert(&mut self, at: usize, entry: Entry<Cell>)
-        ensures { Inserts at entry self.old self.new }
-    {
-        if at <= self.count && self.count < self.entries.len() {
-            let count = self.count;
-            shift_in(self.entries, at, count, entry);
-            self.count += 1;
-        }
-    }
-}
-
-// Moves the entries from `at` to `count` one place on, and writes a new one before them.
-fn shift_in(entries: &mut [Entry<Cell>], at: usize, count: usize, entry: Entry<Cell>)
-    requires place { at ≤ count }
-    requires room { count < length entries.old }
-    ensures written { take (count + 1) entries.new ≡ insert at entry (take count entries.old) }
-    ensures past { drop (count + 1) entries.new ≡ drop (count + 1) entries.old }
-{
-    let mut moved = entry;
-    for i in at..count {
-        let next = entries[i];
-        entries[i] = moved;
-        moved = next;
-    }
-    entries[count] = moved;
 }

@@ -1,7 +1,7 @@
 -- No trail of an event passes the 200 entries of the list.
 use Rattle.std.proofs.Common.{ℕ, arith}
 use Rattle.cells.proofs.Bounds.{Short, short_ret, short_refuse, short_look, short_change, short_cond, short_bind, shorter}
-use Rattle.plan.proofs.Lengths.{short-plan}
+use Rattle.plan.proofs.Lengths.{short_plan}
 use Rattle.perform.specs.Perform.{kill as kill-task, abort as abort-task, ticks}
 use Rattle.perform.proofs.Lengths.{short_perform, short_ready, short_abort, short_ticks}
 use Rattle.machine.specs.Events.{launch, cycle}
@@ -23,5 +23,5 @@ short_cycle size t =
     shorter 200 (
     short_look {n = 9} (λ s. short_cond _ short_ret (
     short_look {n = 8} (λ d. short_cond _ (
-    short_look {n = 7} (λ p. short_bind {n = 4} {k = 3} (short-plan size _) (λ a. short_perform t a)))
+    short_look {n = 7} (λ p. short_bind {n = 4} {k = 3} (short_plan size _) (λ a. short_perform t a)))
     short_ret)))) (omega arith)

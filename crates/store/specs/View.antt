@@ -1,5 +1,5 @@
 -- What the cells of a machine hold, from its tasks and flags, RAM and the lines of its two cards.
-use Rattle.std.specs.Prelude.{ℕ, ◌<◌, Bool, false, cond, List, [], slice_index, slice_index_or, slice_set}
+use Rattle.std.specs.Prelude.{ℕ, Bool, false, cond, List, [], slice_index, slice_index_or, slice_set}
 use Rattle.law.specs.Trees.{Contents}
 use Rattle.cells.specs.declared.Cell.{Cell}
 use Rattle.cells.specs.declared.Cell.TheVariants.{Ram, Register, Place, State, Delay, Flag, Input, Output}
@@ -9,8 +9,6 @@ use Rattle.store.specs.declared.Line.TheVariants as line
 use Rattle.store.specs.declared.State.{State as TaskState}
 use Rattle.store.specs.declared.State.TheVariants.{Idle, Ready}
 use Rattle.store.specs.declared.Task.{Task}
-use Rattle.store.specs.declared.Word.{Word}
-use Rattle.store.specs.declared.Word.TheVariants as word
 
 abbrev pub state_number : TaskState → ℕ
 state_number Idle = 0
@@ -54,16 +52,6 @@ abbrev pub line_cell : Line → Cell
 line_cell (line.Input n) = Input n
 line_cell (line.Output n) = Output n
 line_cell (line.Flag n) = Flag n
-
--- the cell of a word that task t can store
-abbrev pub word_cell : ℕ → Word → Cell
-word_cell t (word.Register r) = Register t r
-word_cell t (word.Ram a) = Ram a
-
--- such a word that there is, in a machine with `size` words of RAM
-abbrev pub Reach : ℕ → Word → Type 0
-Reach size (word.Register r) = r < 128
-Reach size (word.Ram a) = a < size
 
 -- a task with one part changed
 abbrev pub with_register : Task → ℕ → ℕ → Task

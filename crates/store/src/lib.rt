@@ -2,10 +2,9 @@
 ghost use Rattle.std.specs.Prelude.{◌≡◌, ℕ, ◌<◌, Bool, List, length, Decides};
 ghost use Rattle.cells.specs.declared.Cell.{Cell};
 ghost use Rattle.cells.specs.declared.Cell.TheVariants.{Register, Place, State as StateCell, Delay, Flag, Ram};
-ghost use Rattle.cells.specs.Cells.{same, There};
+ghost use Rattle.cells.specs.Cells.{There};
 ghost use Rattle.cells.specs.Runs.{Sees, Pokes};
-ghost use Rattle.law.specs.Trees.{poke};
-ghost use Rattle.store.specs.View.{state_number, level, view, new_cells, line_cell, word_cell, Reach, with_register, with_place, with_state, with_delay};
+ghost use Rattle.store.specs.View.{state_number, level, view, new_cells, line_cell, with_register, with_place, with_state, with_delay};
 ghost use Rattle.std.specs.Cmp.Rules.{comparing};
 ghost use Rattle.std.proofs.Common.{rules};
 
@@ -140,7 +139,7 @@ impl Board {
         ensures { (is os : List Bool) (ws : List ℕ) → Sees (view self.now is os ws) (Register t r) result trail.old trail.new }
     {
         trail.note(Entry::Read(Cell::Register { task: t, number: r }));
-        self.register(t, r)
+        self.tasks[t as usize].registers[r as usize]
     }
 
     pub fn read_flag(&self, n: u8, trail: &mut Trail) -> bool
@@ -180,25 +179,7 @@ impl Board {
         ensures { (is os : List Bool) (ws : List ℕ) → Pokes (view self.old is os ws) (Register t r) v (view self.new is os ws) trail.old trail.new }
     {
         trail.note(Entry::Changed(Cell::Register { task: t, number: r }));
-        self.put_register(t, r, v);
-    }
-
-    // Changes a register whose entry is written elsewhere.
-    pub fn put_register(&mut self, t: u8, r: u8, v: u16)
-        requires task { t < 32 }
-        requires register { r < 128 }
-        ensures { (is os : List Bool) (ws : List ℕ) → poke same (Register t r) v (view self.old is os ws) ≡ view self.new is os ws }
-    {
         self.tasks[t as usize].set_register(r, v);
-    }
-
-    // What a register holds, with no entry in a trail.
-    pub fn register(&self, t: u8, r: u8) -> u16
-        requires task { t < 32 }
-        requires register { r < 128 }
-        ensures { (is os : List Bool) (ws : List ℕ) → result ≡ view self.now is os ws (Register t r) }
-    {
-        self.tasks[t as usize].registers[r as usize]
     }
 
     pub fn write_flag(&mut self, n: u8, v: bool, trail: &mut Trail)
@@ -223,35 +204,6 @@ pub fn write_ram(ram: &mut [u16], a: u16, v: u16, trail: &mut Trail)
 {
     trail.note(Entry::Changed(Cell::Ram { address: a }));
     ram[a as usize] = v;
-}
-
-// A word that a command can read and store: a register of its own task, or a word of RAM.
-#[derive(Clone, Copy)]
-pub enum Word {
-    Register(u8),
-    Ram(u16),
-}
-
-pub fn read_word(board: &Board, ram: &[u16], t: u8, word: Word, trail: &mut Trail) -> u16
-    requires task { t < 32 }
-    requires there { Reach (length ram.now) word }
-    ensures { (is os : List Bool) → Sees (view board.now is os ram.now) (word_cell t word) result trail.old trail.new }
-{
-    match word {
-        Word::Register(r) => board.read_register(t, r, trail),
-        Word::Ram(a) => read_ram(ram, a, trail),
-    }
-}
-
-pub fn write_word(board: &mut Board, ram: &mut [u16], t: u8, word: Word, v: u16, trail: &mut Trail)
-    requires task { t < 32 }
-    requires there { Reach (length ram.old) word }
-    ensures { (is os : List Bool) → Pokes (view board.old is os ram.old) (word_cell t word) v (view board.new is os ram.new) trail.old trail.new }
-{
-    match word {
-        Word::Register(r) => board.write_register(t, r, v, trail),
-        Word::Ram(a) => write_ram(ram, a, v, trail),
-    }
 }
 
 fn level_of(on: bool) -> u16

@@ -1,3 +1,3 @@
 pub mod Numbers
 pub mod Words
-pub mod Operands
+pub mod Codes

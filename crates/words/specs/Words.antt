@@ -1,8 +1,11 @@
 -- What the parts of a command word mean.
-use Rattle.std.specs.Prelude.{ℕ, ◌/◌, ◌%◌}
+use Rattle.std.specs.Prelude.{ℕ, ◌+◌, ◌/◌, ◌%◌, ◌<◌, Bool, cond, ◌&&◌, Ok, Err, Result, ◌==◌, nat_lt}
 use Rattle.words.specs.declared.Control.{Control}
 use Rattle.words.specs.declared.Head.{Head}
+use Rattle.words.specs.declared.Operand.{Operand}
+use Rattle.words.specs.declared.Operand.TheVariants.{Absent, Immediate, Register, Inputs, Outputs, Flags}
 use Rattle.words.specs.declared.Reason.{Reason}
+use Rattle.words.specs.declared.Reason.TheVariants.{WrongMode}
 use Rattle.words.specs.declared.Refusal.{Refusal}
 use Rattle.words.specs.declared.Site.{Site}
 
@@ -16,3 +19,39 @@ head w = record { code = w / 256; source = w / 16 % 16; destination = w % 16 }
 -- a control word is laid out like a head, with a byte that must be 00 in the place of the code
 abbrev pub control : ℕ → Control
 control w = record { fixed = w / 256; source = w / 16 % 16; destination = w % 16 }
+
+abbrev pub high : ℕ → ℕ
+high w = w / 256
+
+abbrev pub low : ℕ → ℕ
+low w = w % 256
+
+-- a byte widened to a word by its sign
+abbrev pub widened : ℕ → ℕ
+widened b = cond (nat_lt b 128) b (b + 0xFF00)
+
+-- a part of a word that must be so, or the operand is refused
+abbrev pub must : {A : Type 0} → Bool → Site → ℕ → Result A Refusal → Result A Refusal
+must ok site operand r = cond ok r (Err (refusal_at site WrongMode operand))
+
+-- the word of a source whose destination has none of it: each part is checked, from the high end down
+abbrev pub source : ℕ → ℕ → Site → ℕ → Result Operand Refusal
+source mode w site operand =
+    cond (mode == 0) (Ok (Immediate w))
+    (cond (mode == 3) (must (high w == 0) site operand (must (nat_lt (low w) 128) site operand (Ok (Register (low w)))))
+    (cond (mode == 0xC) (must (low w == 0) site operand (Ok (Immediate (widened (high w)))))
+    (cond (mode == 0xD) (must (nat_lt (high w) 128) site operand (must (low w == 0) site operand (Ok (Register (high w)))))
+    (Err (refusal_at site WrongMode operand)))))
+
+-- the lines that a base's mode stands for
+abbrev pub base : ℕ → Operand
+base mode = cond (mode == 0xC) Inputs (cond (mode == 0xD) Outputs (cond (mode == 0xE) Flags Absent))
+
+-- an operand names a register that there is
+abbrev pub Known : Operand → Type 0
+Known Absent = Unit {0}
+Known (Immediate v) = Unit {0}
+Known (Register r) = r < 128
+Known Inputs = Unit {0}
+Known Outputs = Unit {0}
+Known Flags = Unit {0}

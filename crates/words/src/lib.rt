@@ -1,11 +1,8 @@
-// Command words: what the parts of a head, a control word and a data word say, and the refusal of a bad one.
-ghost use Rattle.std.specs.Prelude.{◌≡◌, ◌%◌, ◌<◌, IfOk};
-ghost use Rattle.arith.specs.Words.{widened};
+// Command words: what a head, the table of codes and a data word say.
+ghost use Rattle.std.specs.Prelude.{◌≡◌, ◌%◌, IfOk};
 ghost use Rattle.words.specs.Numbers.{reason_number};
-ghost use Rattle.words.specs.Operands.{Known, AllKnown, step_of, charged, own, packed, shared_byte, packed_word, first_word, lines_of};
-ghost use Rattle.words.specs.Words.{refusal_at, head, control};
-
-use arith::{high_byte, low_byte, widen};
+ghost use Rattle.words.specs.Codes.{admits, at_fault, before_data, length_of, layout, decoded};
+ghost use Rattle.words.specs.Words.{Known, refusal_at, high, low, head, control, widened, source, base};
 
 // Why a call is refused.
 #[derive(Clone, Copy)]
@@ -70,6 +67,18 @@ impl Site {
     }
 }
 
+pub fn high_byte(word: u16) -> u8
+    ensures { result ≡ high word }
+{
+    (word >> 8) as u8
+}
+
+pub fn low_byte(word: u16) -> u8
+    ensures { result ≡ low word }
+{
+    (word & 0xff) as u8
+}
+
 // The lowest four bits.
 fn low_digit(word: u16) -> u8
     ensures { result ≡ word % 16 }
@@ -122,25 +131,193 @@ impl Control {
     }
 }
 
-// A base of single bits that is no word.
+// What a command does with an operand, which decides the modes that it may have.
 #[derive(Clone, Copy)]
-pub enum Lines {
-    Inputs,
-    Outputs,
-    Flags,
+pub enum Role {
+    Unused,
+    Offset,
+    ReadBase,
+    WrittenBase,
 }
 
-// How the address of a word of RAM is worked out. Offsets, distances and steps are words: a negative one is 65,536 more.
+impl Role {
+    pub fn admits(self, mode: u8) -> bool
+        ensures { result ≡ admits self mode }
+    {
+        match self {
+            Role::Unused => mode == 0,
+            Role::Offset => mode == 0 || mode == 3 || mode == 0xC || mode == 0xD,
+            Role::ReadBase => mode == 0xC || mode == 0xD || mode == 0xE,
+            Role::WrittenBase => mode == 0xD || mode == 0xE,
+        }
+    }
+
+    // The operand that a wrong mode is charged to: none where the field is not used.
+    pub fn at_fault(self, operand: u8) -> u8
+        ensures { result ≡ at_fault self operand }
+    {
+        match self {
+            Role::Unused => 0,
+            _ => operand,
+        }
+    }
+}
+
 #[derive(Clone, Copy)]
-pub enum Address {
-    Direct(u16),
-    Indirect(u8),
-    Offset { register: u8, offset: u16 },
-    // The register moves on by `step`: after it was used as the address, or before.
-    StepAfter { register: u8, step: u16 },
-    StepBefore { register: u8, step: u16 },
-    Indexed { register: u8, index: u8 },
-    Relative { register: u8, distance: u16 },
+pub struct Pair {
+    pub source: Role,
+    pub destination: Role,
+}
+
+// How the words of a command are laid out.
+#[derive(Clone, Copy)]
+pub struct Layout {
+    pub pairs: u8,
+    pub jump: bool,
+    pub first: Pair,
+    pub second: Pair,
+}
+
+impl Layout {
+    // How many words stand before the data of the pair: the head, and the jump address if there is one.
+    pub fn before_data(self) -> u16
+        ensures { result ≡ before_data self }
+    {
+        if self.jump { 2 } else { 1 }
+    }
+
+    pub fn length(self) -> u16
+        ensures { result ≡ length_of self }
+    {
+        if self.pairs == 0 {
+            self.before_data()
+        } else {
+            self.before_data() + 1
+        }
+    }
+}
+
+const NO_PAIR: Pair = Pair {
+    source: Role::Unused,
+    destination: Role::Unused,
+};
+
+const READ_BIT: Pair = Pair {
+    source: Role::Offset,
+    destination: Role::ReadBase,
+};
+
+const WRITTEN_BIT: Pair = Pair {
+    source: Role::Offset,
+    destination: Role::WrittenBase,
+};
+
+const BARE: Layout = Layout {
+    pairs: 0,
+    jump: false,
+    first: NO_PAIR,
+    second: NO_PAIR,
+};
+
+const JUMP: Layout = Layout {
+    pairs: 0,
+    jump: true,
+    first: NO_PAIR,
+    second: NO_PAIR,
+};
+
+const BIT_JUMP: Layout = Layout {
+    pairs: 1,
+    jump: true,
+    first: READ_BIT,
+    second: NO_PAIR,
+};
+
+const BIT_READ: Layout = Layout {
+    pairs: 1,
+    jump: false,
+    first: READ_BIT,
+    second: NO_PAIR,
+};
+
+const BIT_WRITE: Layout = Layout {
+    pairs: 1,
+    jump: false,
+    first: WRITTEN_BIT,
+    second: NO_PAIR,
+};
+
+// The layout by code, for the codes from 10 to 17 and from 50 to 57.
+const BIT_ROWS: [Layout; 8] = [
+    BIT_JUMP, BIT_JUMP, BIT_WRITE, BIT_WRITE, BIT_WRITE, BIT_READ, BIT_READ, BARE,
+];
+
+const JUMP_ROWS: [Layout; 8] = [JUMP, BARE, BARE, BARE, BARE, BARE, BARE, BARE];
+
+pub fn layout_of(code: u8) -> Layout
+    ensures { result ≡ layout code }
+{
+    match code {
+        0x10..=0x17 => BIT_ROWS[(code - 0x10) as usize],
+        0x50..=0x57 => JUMP_ROWS[(code - 0x50) as usize],
+        _ => BARE,
+    }
+}
+
+// The commands that are built, by what they do.
+#[derive(Clone, Copy)]
+pub enum Command {
+    // TBR0, TBR1: jump if the bit is `value`.
+    BranchOn { value: bool },
+    // SBIT, CBIT.
+    Write { value: bool },
+    // IBIT.
+    Invert,
+    // THT0, THT1: stay while the bit is `value`.
+    HaltWhile { value: bool },
+    // BRA.
+    Branch,
+    // JSKI.
+    EndTask,
+}
+
+// Chooses the command, or says what is wrong with its head.
+pub fn decode(head: Head, site: Site) -> Result<Command, Refusal>
+    ensures { result ≡ decoded head site }
+{
+    let pair = layout_of(head.code).first;
+    let source = pair.source.admits(head.source);
+    let destination = pair.destination.admits(head.destination);
+    match head.code {
+        0x10..=0x11 if source && destination => Ok(Command::BranchOn {
+            value: head.code == 0x11,
+        }),
+        0x12..=0x13 if source && destination => Ok(Command::Write {
+            value: head.code == 0x12,
+        }),
+        0x14 if source && destination => Ok(Command::Invert),
+        0x15..=0x16 if source && destination => Ok(Command::HaltWhile {
+            value: head.code == 0x16,
+        }),
+        0x50 if source && destination => Ok(Command::Branch),
+        0x55 if source && destination => Ok(Command::EndTask),
+        0x10..=0x16 | 0x50 | 0x55 if source => {
+            Err(site.refusal(Reason::WrongMode, pair.destination.at_fault(2)))
+        }
+        0x10..=0x16 | 0x50 | 0x55 => Err(site.refusal(Reason::WrongMode, pair.source.at_fault(1))),
+        _ => Err(site.refusal(Reason::UnknownCode, 0)),
+    }
+}
+
+// A byte as a word, by its sign.
+fn widen(byte: u8) -> u16
+    ensures { result ≡ widened byte }
+{
+    if byte < 128 {
+        byte as u16
+    } else {
+        byte as u16 + 0xFF00
+    }
 }
 
 // An operand as the words of a command give it.
@@ -149,151 +326,35 @@ pub enum Operand {
     Absent,
     Immediate(u16),
     Register(u8),
-    Memory(Address),
-    Lines(Lines),
+    Inputs,
+    Outputs,
+    Flags,
 }
 
-// The two operands of a pair.
-#[derive(Clone, Copy)]
-pub struct Operands {
-    pub source: Operand,
-    pub destination: Operand,
-}
-
-// The numbers that the two operands of a pair go by in a refusal.
-#[derive(Clone, Copy)]
-pub struct Numbers {
-    pub source: u8,
-    pub destination: u8,
-}
-
-// The address of mode 6, from its high byte: a step of seven bits, signed, if its top bit is 1, else an index register.
-fn step_of(high: u8, register: u8) -> Address
-    ensures { result ≡ step_of high register }
-{
-    match high {
-        0x00..=0x7F => Address::Indexed {
-            register,
-            index: high,
-        },
-        0x80..=0xBF => Address::StepAfter {
-            register,
-            step: high as u16 - 0x80,
-        },
-        _ => Address::StepBefore {
-            register,
-            step: widen(high),
-        },
-    }
-}
-
-// An operand that has a word of its own.
-pub fn own_word(mode: u8, word: u16, site: Site, operand: u8) -> Result<Operand, Refusal>
-    ensures value { result ≡ charged site operand (own mode word) }
+// The source of a pair whose destination has no word or byte of its own.
+pub fn source_operand(mode: u8, word: u16, site: Site, operand: u8) -> Result<Operand, Refusal>
+    ensures value { result ≡ source mode word site operand }
     ensures known { IfOk result Known }
 {
     let high = high_byte(word);
-    let register = low_byte(word);
+    let low = low_byte(word);
     match mode {
         0 => Ok(Operand::Immediate(word)),
-        3 if high == 0 && register < 128 => Ok(Operand::Register(register)),
-        4 if high == 0 && register < 128 => Ok(Operand::Memory(Address::Indirect(register))),
-        5 if register < 128 => Ok(Operand::Memory(Address::Offset {
-            register,
-            offset: widen(high),
-        })),
-        6 if register < 128 => Ok(Operand::Memory(step_of(high, register))),
-        7 if register < 128 => Ok(Operand::Memory(Address::Relative {
-            register,
-            distance: widen(high),
-        })),
-        8 => Ok(Operand::Memory(Address::Direct(word))),
+        3 if high == 0 && low < 128 => Ok(Operand::Register(low)),
+        0xC if low == 0 => Ok(Operand::Immediate(widen(high))),
+        0xD if high < 128 && low == 0 => Ok(Operand::Register(high)),
         _ => Err(site.refusal(Reason::WrongMode, operand)),
     }
 }
 
-// A source in the high byte of a word.
-fn packed_source(mode: u8, byte: u8, site: Site, operand: u8) -> Result<Operand, Refusal>
-    ensures value { result ≡ charged site operand (packed mode byte) }
-    ensures known { IfOk result Known }
+// The lines that a bit is counted on.
+pub fn base_operand(mode: u8) -> Operand
+    ensures { result ≡ base mode }
 {
     match mode {
-        0xC => Ok(Operand::Immediate(widen(byte))),
-        0xD if byte < 128 => Ok(Operand::Register(byte)),
-        0xE if byte < 128 => Ok(Operand::Memory(Address::Indirect(byte))),
-        _ => Err(site.refusal(Reason::WrongMode, operand)),
-    }
-}
-
-// What the low byte below such a source says: the register of a destination of mode 3 or 4, else it must be 00.
-fn low_part(mode: u8, byte: u8, site: Site, numbers: Numbers) -> Result<Operand, Refusal>
-    ensures value { result ≡ shared_byte mode byte site numbers }
-    ensures known { IfOk result Known }
-{
-    match mode {
-        3 if byte < 128 => Ok(Operand::Register(byte)),
-        4 if byte < 128 => Ok(Operand::Memory(Address::Indirect(byte))),
-        3 | 4 => Err(site.refusal(Reason::WrongMode, numbers.destination)),
-        _ if byte == 0 => Ok(Operand::Absent),
-        _ => Err(site.refusal(Reason::WrongMode, numbers.source)),
-    }
-}
-
-// A word with the source in its high byte, and perhaps the destination in the other.
-fn packed_operands(
-    source: u8,
-    destination: u8,
-    high: u8,
-    low: u8,
-    site: Site,
-    numbers: Numbers,
-) -> Result<Operands, Refusal>
-    ensures value { result ≡ packed_word source destination high low site numbers }
-    ensures known { IfOk result AllKnown }
-{
-    let source = packed_source(source, high, site, numbers.source)?;
-    let destination = low_part(destination, low, site, numbers)?;
-    Ok(Operands {
-        source,
-        destination,
-    })
-}
-
-// The first data word of a pair: the source, and the destination too where it shares the word.
-pub fn first_operands(
-    source: u8,
-    destination: u8,
-    word: u16,
-    site: Site,
-    numbers: Numbers,
-) -> Result<Operands, Refusal>
-    ensures value { result ≡ first_word source destination word site numbers }
-    ensures known { IfOk result AllKnown }
-{
-    if source < 0xC {
-        let source = own_word(source, word, site, numbers.source)?;
-        return Ok(Operands {
-            source,
-            destination: Operand::Absent,
-        });
-    }
-    packed_operands(
-        source,
-        destination,
-        high_byte(word),
-        low_byte(word),
-        site,
-        numbers,
-    )
-}
-
-// The lines that a base's mode stands for.
-pub fn base_lines(mode: u8) -> Lines
-    ensures { result ≡ lines_of mode }
-{
-    match mode {
-        0xC => Lines::Inputs,
-        0xD => Lines::Outputs,
-        _ => Lines::Flags,
+        0xC => Operand::Inputs,
+        0xD => Operand::Outputs,
+        0xE => Operand::Flags,
+        _ => Operand::Absent,
     }
 }

@@ -1,0 +1,62 @@
+-- From a fetched command to the action that is left of it: operands are taken, then tested.
+use Rattle.std.specs.Prelude.{ℕ, Bool, cond, Ok, Err, Result, nat_lt}
+use Rattle.law.specs.Trees.{ret, look, bind}
+use Rattle.words.specs.Words.{refusal_at}
+use Rattle.words.specs.declared.Command.{Command}
+use Rattle.words.specs.declared.Command.TheVariants as command
+use Rattle.words.specs.declared.Operand.{Operand}
+use Rattle.words.specs.declared.Operand.TheVariants.{Absent, Immediate, Register, Inputs, Outputs, Flags}
+use Rattle.words.specs.declared.Reason.TheVariants.{ValueRange}
+use Rattle.words.specs.declared.Refusal.{Refusal}
+use Rattle.words.specs.declared.Site.{Site}
+use Rattle.cells.specs.declared.Cell.TheVariants as cell
+use Rattle.cells.specs.Runs.{Steps, lift}
+use Rattle.store.specs.declared.Line.{Line}
+use Rattle.store.specs.declared.Line.TheVariants as line
+use Rattle.plan.specs.Fetch.{fetch}
+use Rattle.plan.specs.declared.Action.{Action}
+use Rattle.plan.specs.declared.Action.TheVariants.{Jump, BranchOn, Write, Invert, HaltWhile, EndTask}
+use Rattle.plan.specs.declared.Fetched.{Fetched}
+
+-- the value of a source of task t
+abbrev pub value : ℕ → Operand → Steps ℕ
+value t Absent = ret 0
+value t (Immediate v) = ret v
+value t (Register r) = look (cell.Register t r) ret
+value t Inputs = ret 0
+value t Outputs = ret 0
+value t Flags = ret 0
+
+abbrev pub line_of : Operand → ℕ → Line
+line_of Absent n = line.Flag n
+line_of (Immediate v) n = line.Flag n
+line_of (Register r) n = line.Flag n
+line_of Inputs n = line.Input n
+line_of Outputs n = line.Output n
+line_of Flags n = line.Flag n
+
+-- the line at an offset from a base
+abbrev pub line_at : Site → Operand → ℕ → Result Line Refusal
+line_at site base o = cond (nat_lt 255 o) (Err (refusal_at site ValueRange 2)) (Ok (line_of base o))
+
+abbrev pub with_line : Result Line Refusal → (Line → Action) → Result Action Refusal
+with_line (Ok l) f = Ok (f l)
+with_line (Err r) f = Err r
+
+abbrev pub action : Command → Site → Fetched → ℕ → Result Action Refusal
+action command.Branch site f o = Ok (Jump f.jump)
+action command.EndTask site f o = Ok (EndTask f.next)
+action (command.BranchOn v) site f o = with_line (line_at site f.destination o) (λ l. BranchOn l v f.jump f.next)
+action (command.Write v) site f o = with_line (line_at site f.destination o) (λ l. Write l v f.next)
+action command.Invert site f o = with_line (line_at site f.destination o) (λ l. Invert l f.next)
+action (command.HaltWhile v) site f o = with_line (line_at site f.destination o) (λ l. HaltWhile l v f.next)
+
+abbrev pub planned : Site → Fetched → ℕ → Result Action Refusal
+planned site f o = action f.command site f o
+
+abbrev pub take_operands : Site → Fetched → Steps Action
+take_operands site f = bind (value site.task f.source) (λ o. lift (planned site f o))
+
+-- all that can refuse in the command at `site`
+abbrev pub plan : ℕ → Site → Steps Action
+plan size site = bind (fetch size site) (take_operands site)

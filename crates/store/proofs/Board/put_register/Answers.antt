@@ -1,9 +1,0 @@
-use Rattle.std.proofs.Common.{◌<◌, length, rules}
-use Rattle.store.proofs.Views.{poke_register}
-use Rattle.store.proofs.Board.put_register.Goals as goal
-
-pub returns : goal.returns
-returns c = λ is os ws.
-    let b = c.args.self.now in
-    let h : c.args.t < length b.tasks = search rules in
-    poke_register b is os ws c.args.t h _ c.args.r c.args.v c.set-register.ensures.within _ c.set-register.ensures.after
