@@ -1,5 +1,6 @@
 -- Lists that are written over from their start.
-use Rattle.std.proofs.Common.{◌≡◌, ℕ, suc, ◌+◌, ◌<◌, ◌≤◌, List, [], ◌∷◌, ◌++◌, length, take, drop, set, sym, refl, ap, ◌∙◌, append_assoc, append-nil, add-one, arith, length-append, take-suc-set, Bor}
+use Rattle.std.proofs.Common.{◌≡◌, ℕ, suc, ◌+◌, ◌<◌, ◌≤◌, List, [], ◌∷◌, ◌++◌, length, take, drop, set, sym, refl, ap, ◌∙◌, append_assoc, append-nil, add-one, arith, length-append, take-suc-set}
+use Rattle.std.specs.Borrow.{MutBor}
 use Rattle.std.proofs.lemmas.List.{drop-drop, drop-set-lt, take-append-drop}
 use Rattle.law.specs.declared.Entry.{Entry}
 use Rattle.cells.specs.declared.Cell.{Cell}
@@ -47,7 +48,7 @@ over_all es old xs n k p q =
     sym (take-append-drop n xs) ∙ ap (λ (l : Entries). l ++ drop n xs) p ∙ ap (λ (l : Entries). es ++ l) q
 
 -- what a trail that was begun over the loan x leaves
-pub finished : (es : Entries) {x : Bor Entries} {t t' : Trail} → Fresh x t → Grows es t t' → length es ≤ length x.now
+pub finished : (es : Entries) {x : MutBor Entries} {t t' : Trail} → Fresh x t → Grows es t t' → length es ≤ length x.now
     → (t'.entries.now ≡ over es x.now) × (t'.count ≡ length es)
 finished es {x} {t} {t'} fresh grows room =
     let long : length t.entries.now ≡ length x.now = ap length fresh.entries in

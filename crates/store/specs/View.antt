@@ -1,5 +1,7 @@
 -- What the cells of a machine hold, from its tasks and flags, RAM and the lines of its two cards.
-use Rattle.std.specs.Prelude.{ℕ, Bool, false, cond, List, [], slice_index, slice_index_or, slice_set}
+use Rattle.std.specs.Prelude.{ℕ, Bool, false, cond, ◌==◌, List, [], slice_index, slice_index_or, slice_set}
+use Rattle.std.specs.Ordering.{on, eq_of_both}
+use Rattle.std.specs.Cmp.Lexicographic.{pointwise}
 use Rattle.law.specs.Trees.{Contents}
 use Rattle.cells.specs.declared.Cell.{Cell}
 use Rattle.cells.specs.declared.Cell.TheVariants.{Ram, Register, Place, State, Delay, Flag, Input, Output}
@@ -65,3 +67,9 @@ with_state k v = record { registers = k.registers; place = k.place; state = v; d
 
 abbrev pub with_delay : Task → ℕ → Task
 with_delay k v = record { registers = k.registers; place = k.place; state = k.state; delay = v }
+
+-- whether two tasks are the same in each part
+abbrev pub task_eq : Task → Task → Bool
+task_eq =
+    eq_of_both (eq_of_both (on (λ k. k.place) ◌==◌) (on (λ k. state_number k.state) ◌==◌))
+    (eq_of_both (on (λ k. k.delay) ◌==◌) (on (λ k. k.registers) (pointwise ◌==◌)))

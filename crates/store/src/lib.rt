@@ -4,7 +4,7 @@ ghost use Rattle.cells.specs.declared.Cell.{Cell};
 ghost use Rattle.cells.specs.declared.Cell.TheVariants.{Register, Place, State as StateCell, Delay, Flag, Ram};
 ghost use Rattle.cells.specs.Cells.{There};
 ghost use Rattle.cells.specs.Runs.{Sees, Pokes};
-ghost use Rattle.store.specs.View.{state_number, level, view, new_cells, line_cell, with_register, with_place, with_state, with_delay};
+ghost use Rattle.store.specs.View.{state_number, level, view, new_cells, line_cell, task_eq, with_register, with_place, with_state, with_delay};
 ghost use Rattle.std.specs.Cmp.Rules.{comparing};
 ghost use Rattle.std.proofs.Common.{rules};
 
@@ -67,11 +67,14 @@ impl Task {
 
 // Two records are the same if all their parts are.
 impl PartialEq for Task {
-    ghost equals = { λ a b r. Decides r (a ≡ b) };
+    ghost eq = { task_eq };
 
     ghost laws = { Prim.search (comparing, rules) };
 
-    fn eq(&self, other: &Task) -> bool {
+    fn eq(&self, other: &Task) -> bool
+        ensures tested { result ≡ task_eq self.now other.now }
+        ensures decided { Decides result (self.now ≡ other.now) }
+    {
         self.place == other.place
             && self.state == other.state
             && self.delay == other.delay
