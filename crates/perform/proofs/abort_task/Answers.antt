@@ -8,14 +8,14 @@ returns-in-Idle c = λ is os ws. go_look (c.in-Idle.ensures is os ws) go_ret
 pub returns-then-target-eq0 : goal.returns-then-target-eq0
 returns-then-target-eq0 c = λ is os ws.
     go_look (c.in-Ready.ensures is os ws) (
-    go_look (c.read-register-target.ensures is os ws) (
+    go_look (c.read_register-target.ensures is os ws) (
     rw (eq-eqb _ _ c.if-target-eq0.true) (
-    c.end-task.ensures is os ws)))
+    c.end_task.ensures is os ws)))
 
 pub returns : goal.returns
 returns c = λ is os ws.
     go_look (c.in-Ready.ensures is os ws) (
-    go_look (c.read-register-target.ensures is os ws) (
+    go_look (c.read_register-target.ensures is os ws) (
     rw (ne_eqb _ _ c.if-target-eq0.false) (
-    go_change (c.write-place.ensures is os ws) (
-    go_change (c.write-register.ensures is os ws) go_ret))))
+    go_change (c.write_place.ensures is os ws) (
+    go_change (c.write_register.ensures is os ws) go_ret))))

@@ -2,13 +2,13 @@ use mathlib.Core.Path.{sym, ◌∙◌}
 use Rattle.cells.proofs.Following.{go_look, go_ret}
 use Rattle.perform.proofs.halt_while.Goals as goal
 
-pub returns-then-is-at : goal.returns-then-is-at
-returns-then-is-at g c = λ ws.
-    go_look (c.read-line-bit.ensures ws) (
-    rw (sym c.is-at.ensures ∙ c.if-is-at.true) go_ret)
+pub returns-then-is_at : goal.returns-then-is_at
+returns-then-is_at g c = λ ws.
+    go_look (c.read_line-bit.ensures ws) (
+    rw (sym c.is_at.ensures ∙ c.if-is_at.true) go_ret)
 
 pub returns : goal.returns
 returns g c = λ ws.
-    go_look (c.read-line-bit.ensures ws) (
-    rw (sym c.is-at.ensures ∙ c.if-is-at.false) (
+    go_look (c.read_line-bit.ensures ws) (
+    rw (sym c.is_at.ensures ∙ c.if-is_at.false) (
     c.move_on.ensures (g.I.Card.lines c.args.inputs.now) (g.O.Card.lines c.args.outputs.now) ws))

@@ -7,6 +7,6 @@ use Rattle.perform.proofs.invert_bit.Goals as goal
 
 pub returns : goal.returns
 returns g c = λ ws.
-    go_look (c.read-line-bit.ensures ws) (
-    go_at (λ v. change (line_cell c.args.line) v (move_on c.args.t c.args.next)) (level_not c.read-line-bit.result) (
-    c.write-bit.ensures ws))
+    go_look (c.read_line-bit.ensures ws) (
+    go_at (λ v. change (line_cell c.args.line) v (move_on c.args.t c.args.next)) (level_not c.read_line-bit.result) (
+    c.write_bit.ensures ws))

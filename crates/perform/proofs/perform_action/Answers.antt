@@ -8,20 +8,20 @@ returns-in-Jump g c = λ ws.
     c.move_on.ensures (g.I.Card.lines c.args.inputs.now) (g.O.Card.lines c.args.outputs.now) ws)
 
 pub returns-in-BranchOn : goal.returns-in-BranchOn
-returns-in-BranchOn g c = λ ws. rw c.in-BranchOn.is (c.branch-on.ensures ws)
+returns-in-BranchOn g c = λ ws. rw c.in-BranchOn.is (c.branch_on.ensures ws)
 
 pub returns-in-Write : goal.returns-in-Write
-returns-in-Write g c = λ ws. rw c.in-Write.is (c.write-bit.ensures ws)
+returns-in-Write g c = λ ws. rw c.in-Write.is (c.write_bit.ensures ws)
 
 pub returns-in-Invert : goal.returns-in-Invert
-returns-in-Invert g c = λ ws. rw c.in-Invert.is (c.invert-bit.ensures ws)
+returns-in-Invert g c = λ ws. rw c.in-Invert.is (c.invert_bit.ensures ws)
 
 pub returns-in-HaltWhile : goal.returns-in-HaltWhile
-returns-in-HaltWhile g c = λ ws. rw c.in-HaltWhile.is (c.halt-while.ensures ws)
+returns-in-HaltWhile g c = λ ws. rw c.in-HaltWhile.is (c.halt_while.ensures ws)
 
 pub returns-in-EndTask : goal.returns-in-EndTask
 returns-in-EndTask g c = λ ws.
     let is = g.I.Card.lines c.args.inputs.now in
     let os = g.O.Card.lines c.args.outputs.now in
     rw c.in-EndTask.is (
-    go_bind (c.end-task.ensures is os ws) (λ _. move_on c.args.t c.in-EndTask.next) (c.move-on-in-EndTask.ensures is os ws))
+    go_bind (c.end_task.ensures is os ws) (λ _. move_on c.args.t c.in-EndTask.next) (c.move_on-in-EndTask.ensures is os ws))

@@ -3,4 +3,4 @@ use Rattle.cells.proofs.Following.{find_look, find_ret}
 use Rattle.plan.proofs.fetch_word.Goals as goal
 
 pub returns : goal.returns
-returns c = λ b is os. rw (lt-ltb _ _ c.if-address-ram.false) (find_look (c.read-ram.ensures b is os) find_ret)
+returns c = λ b is os. rw (lt-ltb _ _ c.if-address-ram.false) (find_look (c.read_ram.ensures b is os) find_ret)

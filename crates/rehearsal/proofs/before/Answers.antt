@@ -6,7 +6,7 @@ use Rattle.rehearsal.proofs.before.Goals as goal
 pub returns-then-order-i : goal.returns-then-order-i
 returns-then-order-i c =
     let rest = drop (c.loop-i.i + 1) c.args.order.now in
-    c.holds-from.ensures
+    c.holds_from.ensures
     ∙ sym (on (before? c.args.x c.args.y) c.args.order.now c.loop-i.i _ c.loop-i.invariant 0 c.loop-i-test.true
     ∙ ap (λ (z : Bool). cond z (member? c.args.y rest) (before? c.args.x c.args.y rest)) (eq-eqb _ _ c.if-order-i.true))
 

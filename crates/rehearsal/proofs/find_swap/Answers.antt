@@ -3,7 +3,7 @@ use Rattle.rehearsal.proofs.Reflect.{broken_at}
 use Rattle.rehearsal.proofs.find_swap.Goals as goal
 
 pub loop-i-preserved : goal.loop-i-preserved
-loop-i-preserved c = below_more _ _ c.loop-i.invariant c.in-default.ensures
+loop-i-preserved c = below_more _ _ c.loop-i.invariant c.in_default.ensures
 
 pub returns-in-Some : goal.returns-in-Some
 returns-in-Some c = broken_at c.in-Some.ensures c.loop-i.invariant

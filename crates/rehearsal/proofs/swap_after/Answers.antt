@@ -5,7 +5,7 @@ use Rattle.rehearsal.proofs.swap_after.Goals as goal
 pub loop-j-preserved : goal.loop-j-preserved
 loop-j-preserved c =
     below_more _ _ c.loop-j.invariant
-    (λ h. fine_read c.args.reports.now c.args.order.now c.args.i c.loop-j.j _ _ c.requires c.loop-j-test.true c.in-default.ensures)
+    (λ h. fine_read c.args.reports.now c.args.order.now c.args.i c.loop-j.j _ _ c.requires c.loop-j-test.true c.in_default.ensures)
 
 pub returns-in-Some : goal.returns-in-Some
 returns-in-Some c = record {

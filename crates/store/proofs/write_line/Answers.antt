@@ -30,4 +30,4 @@ returns-in-Output g c = λ ws.
 pub returns-in-Flag : goal.returns-in-Flag
 returns-in-Flag g c = λ ws.
     rw c.in-Flag.is (
-    c.write-flag.ensures (g.I.Card.lines c.args.inputs.now) (g.O.Card.lines c.args.outputs.now) ws)
+    c.write_flag.ensures (g.I.Card.lines c.args.inputs.now) (g.O.Card.lines c.args.outputs.now) ws)

@@ -8,26 +8,26 @@ returns-in-Idle g c =
     let m = c.args.self.now in
     go_look (c.in-Idle.ensures (g.I.Card.lines m.inputs) (g.O.Card.lines m.outputs) c.args.ram.now) go_ret
 
-pub returns-then-read-delay-ne0 : goal.returns-then-read-delay-ne0
-returns-then-read-delay-ne0 g c =
+pub returns-then-read_delay-ne0 : goal.returns-then-read_delay-ne0
+returns-then-read_delay-ne0 g c =
     let m = c.args.self.now in
     let is = g.I.Card.lines m.inputs in
     let os = g.O.Card.lines m.outputs in
     go_look (c.in-Ready.ensures is os c.args.ram.now) (
-    go_look (c.read-delay.ensures is os c.args.ram.now) (
-    rw (ne_eqb _ _ c.if-read-delay-ne0.true) go_ret))
+    go_look (c.read_delay.ensures is os c.args.ram.now) (
+    rw (ne_eqb _ _ c.if-read_delay-ne0.true) go_ret))
 
-pub returns-in-err-action : goal.returns-in-err-action
-returns-in-err-action g c =
+pub returns-in_err-action : goal.returns-in_err-action
+returns-in_err-action g c =
     let m = c.args.self.now in
     let is = g.I.Card.lines m.inputs in
     let os = g.O.Card.lines m.outputs in
-    ends_refused _ _ c.from-residual.ensures.1 (
+    ends_refused _ _ c.from_residual.ensures.1 (
     find_look (c.in-Ready.ensures is os c.args.ram.now) (
-    find_look (c.read-delay.ensures is os c.args.ram.now) (
-    rw (eq-eqb _ _ c.if-read-delay-ne0.false) (
-    find_look (c.read-place-place.ensures is os c.args.ram.now) (
-    find_break (c.in-err-action.ensures is os) _ _ c.from-residual.ensures.1))))) refl
+    find_look (c.read_delay.ensures is os c.args.ram.now) (
+    rw (eq-eqb _ _ c.if-read_delay-ne0.false) (
+    find_look (c.read_place-place.ensures is os c.args.ram.now) (
+    find_break (c.in_err-action.ensures is os) _ _ c.from_residual.ensures.1))))) refl
 
 pub returns : goal.returns
 returns g c =
@@ -35,8 +35,8 @@ returns g c =
     let is = g.I.Card.lines m.inputs in
     let os = g.O.Card.lines m.outputs in
     go_look (c.in-Ready.ensures is os c.args.ram.now) (
-    go_look (c.read-delay.ensures is os c.args.ram.now) (
-    rw (eq-eqb _ _ c.if-read-delay-ne0.false) (
-    go_look (c.read-place-place.ensures is os c.args.ram.now) (
-    go_bind (found (c.in-ok-action.ensures is os)) _ (
-    c.perform-action.ensures c.args.ram.now)))))
+    go_look (c.read_delay.ensures is os c.args.ram.now) (
+    rw (eq-eqb _ _ c.if-read_delay-ne0.false) (
+    go_look (c.read_place-place.ensures is os c.args.ram.now) (
+    go_bind (found (c.in_ok-action.ensures is os)) _ (
+    c.perform_action.ensures c.args.ram.now)))))

@@ -13,8 +13,8 @@ returns g c =
     let size = length c.args.ram.now in
     let room = length c.args.trail.now in
     let m = c.args.self.now in
-    let poked = c.write-ram.ensures m.board (g.I.Card.lines m.inputs) (g.O.Card.lines m.outputs) in
+    let poked = c.write_ram.ensures m.board (g.I.Card.lines m.inputs) (g.O.Card.lines m.outputs) in
     let loan = poked.grows.loan in
-    did_pass size room (ltb c.args.address size) (change (Ram c.args.address) c.args.word (ret Done)) c.in-ok-admit.ensures.value (
-    did_go c.new-notes.ensures (short_change {n = 199} short_ret) c.in-ok-admit.ensures.passed.wide
+    did_pass size room (ltb c.args.address size) (change (Ram c.args.address) c.args.word (ret Done)) c.in_ok-admit.ensures.value (
+    did_go c.new-notes.ensures (short_change {n = 199} short_ret) c.in_ok-admit.ensures.passed.wide
     (go_change poked go_ret) c.count.ensures (search rules))

@@ -4,17 +4,17 @@ use Rattle.machine.proofs.Calling.{did_break, did_pass, did_go, did_find}
 use Rattle.machine.proofs.Lengths.{short_launch}
 use Rattle.machine.proofs.Machine.start.Goals as goal
 
-pub returns-in-err-admit : goal.returns-in-err-admit
-returns-in-err-admit g c =
-    did_break (length c.args.ram.now) (length c.args.trail.now) (ltb c.args.task 32) (launch c.args.task c.args.address) c.in-err-admit.ensures.value _ c.from-residual.ensures.1
+pub returns-in_err-admit : goal.returns-in_err-admit
+returns-in_err-admit g c =
+    did_break (length c.args.ram.now) (length c.args.trail.now) (ltb c.args.task 32) (launch c.args.task c.args.address) c.in_err-admit.ensures.value _ c.from_residual.ensures.1
 
 pub returns-in-Ok : goal.returns-in-Ok
 returns-in-Ok g c =
     let m = c.args.self.now in
     let ran = c.in-Ok.ensures (g.I.Card.lines m.inputs) (g.O.Card.lines m.outputs) c.args.ram.now in
     let loan = ran.grows.loan in
-    did_pass (length c.args.ram.now) (length c.args.trail.now) (ltb c.args.task 32) (launch c.args.task c.args.address) c.in-ok-admit.ensures.value (
-    did_go c.new-notes.ensures (short_launch c.args.task c.args.address) c.in-ok-admit.ensures.passed.wide
+    did_pass (length c.args.ram.now) (length c.args.trail.now) (ltb c.args.task 32) (launch c.args.task c.args.address) c.in_ok-admit.ensures.value (
+    did_go c.new-notes.ensures (short_launch c.args.task c.args.address) c.in_ok-admit.ensures.passed.wide
     ran c.count.ensures (search rules))
 
 pub returns-in-Err : goal.returns-in-Err
@@ -22,6 +22,6 @@ returns-in-Err g c =
     let m = c.args.self.now in
     let ran = c.in-Err.ensures (g.I.Card.lines m.inputs) (g.O.Card.lines m.outputs) c.args.ram.now in
     let loan = ran.0.grows.loan in
-    did_pass (length c.args.ram.now) (length c.args.trail.now) (ltb c.args.task 32) (launch c.args.task c.args.address) c.in-ok-admit.ensures.value (
-    did_find c.new-notes.ensures (short_launch c.args.task c.args.address) c.in-ok-admit.ensures.passed.wide
+    did_pass (length c.args.ram.now) (length c.args.trail.now) (ltb c.args.task 32) (launch c.args.task c.args.address) c.in_ok-admit.ensures.value (
+    did_find c.new-notes.ensures (short_launch c.args.task c.args.address) c.in_ok-admit.ensures.passed.wide
     ran.0 ran.1 c.count-in-Err.ensures (search rules))

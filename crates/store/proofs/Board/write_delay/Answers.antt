@@ -7,6 +7,6 @@ returns c = λ is os ws.
     let b = c.args.self.now in
     let h : c.args.t < length b.tasks = search rules in
     record {
-      value = poke_delay b is os ws c.args.t h _ c.args.v _ c.set-delay.ensures;
+      value = poke_delay b is os ws c.args.t h _ c.args.v _ c.set_delay.ensures;
       grows = c.note.ensures;
     }

@@ -7,6 +7,6 @@ returns c = λ is os ws.
     let b = c.args.self.now in
     let h : c.args.t < length b.tasks = search rules in
     record {
-      value = poke_register b is os ws c.args.t h _ c.args.r c.args.v c.set-register.ensures.within _ c.set-register.ensures.after;
+      value = poke_register b is os ws c.args.t h _ c.args.r c.args.v c.set_register.ensures.within _ c.set_register.ensures.after;
       grows = c.note.ensures;
     }
