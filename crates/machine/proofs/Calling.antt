@@ -1,5 +1,6 @@
 -- From what the code did to the run of the event's tree.
-use Rattle.std.proofs.Common.{◌≡◌, ℕ, ◌≤◌, Bool, true, false, cond, ltb, List, [], length, IsErrAnd, Ok, Err, Result, sym, refl, ap, ◌∙◌, subst, ap₂, arith, Bor}
+use Rattle.std.proofs.Common.{◌≡◌, ℕ, ◌≤◌, Bool, true, false, cond, ltb, List, [], length, IsErrAnd, Ok, Err, Result, sym, refl, ap, ◌∙◌, subst, ap₂, arith}
+use Rattle.std.specs.Borrow.{MutBor}
 use Rattle.std.proofs.lemmas.Result.{err_from_is_err_and}
 use Rattle.law.specs.Trees.{refuse, Contents, Outcome, run, go, kept, left_in, only_reads}
 use Rattle.law.specs.declared.Entry.{Entry}
@@ -44,7 +45,7 @@ module _ (size room : ℕ) (there : Bool) (m : Steps Answer) {s : Contents Cell}
       by true true true h = let z : ◌≡◌ {A = ℕ} 0 1 = cc in absurd (omega arith)
       by true true false h = d
 
-module _ {m : Steps Answer} {s s' : Contents Cell} {x : Bor (List (Entry Cell))} {t t' : Trail} {new : List (Entry Cell)} where
+module _ {m : Steps Answer} {s s' : Contents Cell} {x : MutBor (List (Entry Cell))} {t t' : Trail} {new : List (Entry Cell)} where
   -- a run that ended in an answer
   pub did_go : {a : Answer} {n : ℕ} → Fresh x t → Short 200 m → 200 ≤ length x.now → Goes m s t a s' t' → n ≡ t'.count → new ≡ t'.entries.now
       → Did m s x.now (Ok (record { answer = a; count = n })) s' new
