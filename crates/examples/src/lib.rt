@@ -296,7 +296,7 @@ mod tests {
     }
 
     // Whether the cell of a row holds what it is to hold.
-    fn held(rt: &impl Abort, machine: &Desk, ram: &[u16], row: Row) -> Result<(), Fail> {
+    fn held(rt: &impl Abort, machine: &Desk, ram: &[u16], i: usize, row: Row) {
         let Row(At(_, task, _), _, _, _, _, holds) = row;
         let (got, want) = match holds {
             Holds::In(n, v) => (machine.cell(ram, Kind::Input, 0, n), v),
@@ -304,27 +304,31 @@ mod tests {
             Holds::Flag(n, v) => (machine.cell(ram, Kind::Flag, 0, n), v),
             Holds::State(v) => (machine.cell(ram, Kind::State, task, 0), v),
         };
-        assert_eq!(rt; got.ok(), Some(want));
-        Ok(())
+        assert_eq!(rt; got.ok(), Some(want), "row {i}: the cell");
     }
 
-    fn run(rt: &impl Abort, heap: Global, row: Row) -> Result<(), Fail> {
+    fn run(rt: &impl Abort, heap: Global, i: usize, row: Row) -> Result<(), Fail> {
         let Row(At(size, task, _), _, _, _, count, _) = row;
         let (end, next) = outcome(row);
         let mut ram = vec![in heap; 0u16; size]?;
         let mut machine = new_machine();
         let mut list = [MARK; 200];
         prepare(rt, &mut machine, &mut ram, row, &mut list);
-        assert_eq!(rt; told(machine.turn(&mut ram, task, &mut list)), (end, count));
+        assert_eq!(rt;
+            told(machine.turn(&mut ram, task, &mut list)),
+            (end, count),
+            "row {i}"
+        );
         let place = machine.cell(&ram, Kind::Place, task, 0);
-        assert_eq!(rt; place.ok(), Some(next), "the place");
-        held(rt, &machine, &ram, row).note("the cell")
+        assert_eq!(rt; place.ok(), Some(next), "row {i}: the place");
+        held(rt, &machine, &ram, i, row);
+        Ok(())
     }
 
     #[test]
     fn commands(rt: HostRuntime) -> Result<(), Fail> {
         for (i, row) in TABLE.iter().chain(DOCUMENTED.iter()).enumerate() {
-            run(&rt, rt.alloc(), *row).note(format_args!("row {i}"))?;
+            run(&rt, rt.alloc(), i, *row)?;
         }
         Ok(())
     }
@@ -398,12 +402,13 @@ mod tests {
         size: usize,
         room: usize,
         number: u16,
+        why: &str,
     ) -> Result<(), Fail> {
         let mut ram = vec![in heap; 0u16; size]?;
         let mut list = vec![in heap; MARK; room]?;
         let mut machine = new_machine();
         let end = send(&mut machine, &mut ram, event, &mut list);
-        assert_eq!(rt; end, (plain(number), 0));
+        assert_eq!(rt; end, (plain(number), 0), "{why}");
         listed(rt, &list, &[]);
         let blank = vec![in heap; 0u16; size]?;
         assert!(rt;
@@ -435,16 +440,24 @@ mod tests {
     #[test]
     fn first_refusals(rt: HostRuntime) -> Result<(), Fail> {
         for event in KNOWN {
-            refuses(&rt, rt.alloc(), event, 255, 200, 1)?;
-            refuses(&rt, rt.alloc(), event, 65537, 200, 1)?;
-            refuses(&rt, rt.alloc(), event, 255, 199, 1).note("RAM before the list")?;
-            refuses(&rt, rt.alloc(), event, 256, 199, 3)?;
-            refuses(&rt, rt.alloc(), event, 65536, 0, 3)?;
+            refuses(&rt, rt.alloc(), event, 255, 200, 1, "RAM too short")?;
+            refuses(&rt, rt.alloc(), event, 65537, 200, 1, "RAM too long")?;
+            refuses(&rt, rt.alloc(), event, 255, 199, 1, "RAM before the list")?;
+            refuses(&rt, rt.alloc(), event, 256, 199, 3, "a short list")?;
+            refuses(&rt, rt.alloc(), event, 65536, 0, 3, "an empty list")?;
         }
         for event in UNKNOWN {
-            refuses(&rt, rt.alloc(), event, 255, 199, 1).note("RAM before the name")?;
-            refuses(&rt, rt.alloc(), event, 256, 199, 2).note("the name before the list")?;
-            refuses(&rt, rt.alloc(), event, 256, 200, 2)?;
+            refuses(&rt, rt.alloc(), event, 255, 199, 1, "RAM before the name")?;
+            refuses(
+                &rt,
+                rt.alloc(),
+                event,
+                256,
+                199,
+                2,
+                "the name before the list",
+            )?;
+            refuses(&rt, rt.alloc(), event, 256, 200, 2, "the name")?;
         }
         Ok(())
     }
