@@ -1,4 +1,6 @@
 // The bench: a morning of four tasks and a slip, rehearsed on two machines with other cards, with everything in print.
+#![tactic(auto)]
+
 mod morning;
 mod print;
 

@@ -1,7 +1,6 @@
 -- Lines that are flipped by a mask, and how one write below changes them.
 use Rattle.std.proofs.Common.{◌≡◌, ℕ, ◌<◌, Bool, true, false, not, List, length, get_or, set, sym, refl, ap, ◌∙◌, get_or-set_other, get_or-set_same}
 use mathlib.Core.Bool.{beq}
-use Rattle.cards.specs.Lines.{lines_by}
 use Rattle.cards.specs.Flips.{flip, flipped_line, flipped}
 use Rattle.cards.specs.Rows.{lines_at, lines_set}
 

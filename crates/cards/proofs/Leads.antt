@@ -1,8 +1,7 @@
 -- Lines that are led to other lines, and how a write below and an exchange change them.
-use Rattle.std.proofs.Common.{◌≡◌, ℕ, ◌+◌, ◌<◌, ◌≤◌, Bool, true, false, cond, ltb, List, length, get_or, set, sym, refl, ap, ◌∙◌, ap₂, zero-add, arith, length-set, get_or-set_other, get_or-set_same, ext_get_or, ltb-true}
+use Rattle.std.proofs.Common.{◌≡◌, ℕ, ◌<◌, Bool, true, false, cond, ltb, List, length, get_or, set, sym, refl, ap, ◌∙◌, ap₂, zero-add, arith, length-set, get_or-set_other, get_or-set_same, ext_get_or, ltb-true}
 use Rattle.std.proofs.lemmas.List.FromFn.{length-range_with_len, get_or-range_with_len}
-use Rattle.cards.specs.Lines.{lines_by}
-use Rattle.cards.specs.Contacts.{OneToOne, straight, exchanged, two_lines, after_exchange}
+use Rattle.cards.specs.Contacts.{OneToOne, straight, exchanged, after_exchange}
 use Rattle.cards.specs.Crosses.{crossed_line, crossed}
 use Rattle.cards.specs.Rows.{lines_at, lines_same, lines_set}
 

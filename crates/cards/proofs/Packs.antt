@@ -1,13 +1,10 @@
 -- Lines that are packed into bytes, and how one bit changes them.
-use Rattle.std.proofs.Common.{◌≡◌, ℕ, zero, suc, ◌+◌, ◌-◌, ◌*◌, ◌/◌, ◌%◌, ◌^◌, ◌<◌, ◌≤◌, Bool, true, false, not, eqb, ltb, ◌≢◌, List, [], ◌∷◌, map, length, get_or, set, replicate, sym, refl, ap, ◌∙◌, one-mul, arith, length-set, get_or-set_other, get_or-set_same, ext_get_or, ltb-false, ltb-true, eqb-true}
-use mathlib.Core.Bool.{beq}
+use Rattle.std.proofs.Common.{◌≡◌, ℕ, zero, suc, ◌+◌, ◌-◌, ◌*◌, ◌/◌, ◌%◌, ◌^◌, ◌<◌, ◌≤◌, Bool, true, false, not, eqb, ltb, ◌≢◌, List, length, get_or, set, replicate, sym, refl, ap, ◌∙◌, one-mul, arith, get_or-set_other, get_or-set_same, ltb-false, ltb-true, eqb-true}
 use native.Mathlib.Nat.{zero-div, div-eq_of_lt}
 use borrow.Author.Tests.{eqb-false}
 use lib.Bits.{bit_xor}
-use lib.ListN.{length-replicate, get_or-replicate}
-use lib.Seq.{set-get_or}
+use lib.ListN.{get_or-replicate}
 use Rattle.std.proofs.lemmas.Nat.{xor_shr, xor_mod, shl-shr, pow-add, pow_below}
-use Rattle.std.proofs.lemmas.List.FromFn.{length-map-range_with_len, get_or-map-range_with_len}
 use Rattle.cards.specs.Lines.{all_off, bit, line, unpacked}
 use Rattle.cards.specs.Rows.{lines_off, lines_set}
 

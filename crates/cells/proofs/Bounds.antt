@@ -1,5 +1,5 @@
 -- How long the trail of a tree can be.
-use Rattle.std.proofs.Common.{◌≡◌, ℕ, ◌+◌, ◌≤◌, Bool, true, false, cond, [], ◌∷◌, ◌++◌, length, Ok, Err, Result, sym, ap, ◌∙◌, arith, length-append}
+use Rattle.std.proofs.Common.{ℕ, ◌+◌, ◌≤◌, Bool, true, false, cond, length, Ok, Err, Result, ap, arith, length-append}
 use Rattle.law.specs.Trees.{ret, refuse, look, change, bind, Contents, Outcome, poke, go, go_on}
 use Rattle.law.proofs.Single.{joining}
 use Rattle.words.specs.declared.Refusal.{Refusal}

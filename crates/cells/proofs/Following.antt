@@ -2,7 +2,7 @@
 use Rattle.std.proofs.Common.{◌≡◌, ℕ, List, [], ◌∷◌, ◌++◌, IsErrAnd, Ok, Err, Result, sym, refl, ap, ◌∙◌, subst, ap₂}
 use Rattle.law.specs.declared.Entry.{Entry}
 use Rattle.law.specs.declared.Entry.TheVariants.{Read, Changed}
-use Rattle.law.specs.Trees.{Tree, ret, refuse, look, change, Contents, Outcome, poke, go, go_on, bind, only_reads}
+use Rattle.law.specs.Trees.{ret, refuse, look, change, Contents, Outcome, poke, go, go_on, bind, only_reads}
 use Rattle.law.proofs.Single.{joining}
 use Rattle.words.specs.declared.Refusal.{Refusal}
 use Rattle.cells.specs.declared.Cell.{Cell}

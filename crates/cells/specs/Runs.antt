@@ -1,5 +1,5 @@
 -- How code follows a tree.
-use Rattle.std.specs.Prelude.{◌≡◌, ℕ, List, [], ◌∷◌, Ok, Err, Result}
+use Rattle.std.specs.Prelude.{◌≡◌, ℕ, [], ◌∷◌, Ok, Err, Result}
 use Rattle.law.specs.declared.Entry.TheVariants.{Read, Changed}
 use Rattle.law.specs.Trees.{Tree, ret, refuse, Contents, poke, go, only_reads}
 use Rattle.words.specs.declared.Refusal.{Refusal}

@@ -1,5 +1,5 @@
 -- A list that is lent for a trail: entries are written over it, from its start.
-use Rattle.std.specs.Prelude.{◌≡◌, ℕ, ◌+◌, ◌≤◌, List, [], ◌∷◌, ◌++◌, length, take, drop}
+use Rattle.std.specs.Prelude.{◌≡◌, ℕ, ◌+◌, ◌≤◌, List, ◌++◌, length, take, drop}
 use Rattle.std.specs.Borrow.{MutBor}
 use Rattle.law.specs.declared.Entry.{Entry}
 use Rattle.cells.specs.declared.Cell.{Cell}

@@ -1,4 +1,6 @@
 // The cells of a machine, and the trail that lists those which an event reads and changes.
+#![tactic(auto)]
+
 ghost use Rattle.std.specs.Prelude.{◌≡◌, [], ◌∷◌, IfSome};
 ghost use Rattle.cells.specs.Cells.{kind_number, kind_of, task_of, number_of, same, There, named};
 ghost use Rattle.cells.specs.Trails.{Fresh, Grows};

@@ -5,11 +5,10 @@ use mathlib.Core.List.{map-append}
 use mathlib.Core.Option.{Option, none, some}
 use lib.ListN.{length-map}
 use Rattle.law.specs.Trees.{Contents, run}
-use Rattle.law.specs.Order.{Report as Told, report, reports, final, at, Order, Taken, KeepsClashes, Same}
+use Rattle.law.specs.Order.{report, reports, final, at, Order, Taken, KeepsClashes}
 use Rattle.law.specs.declared.Entry.{Entry}
 use Rattle.law.proofs.Single.{frame, dependence}
 use Rattle.law.proofs.Reorder.{reordering}
-use Rattle.words.specs.declared.Refusal.{Refusal}
 use Rattle.cells.specs.Cells.{same}
 use Rattle.cells.specs.Runs.{Steps}
 use Rattle.cells.specs.declared.Cell.{Cell}

@@ -1,4 +1,6 @@
 // Events as values, and lists of them on one machine.
+#![tactic(auto)]
+
 ghost use Rattle.std.specs.Prelude.{◌≡◌, ℕ, ◌<◌, ◌≤◌, List, length, take, drop, MatchResult, OnOk};
 ghost use Rattle.machine.specs.Calls.{cells_of, Did};
 ghost use Rattle.events.specs.Rows.{room_told, Runs, FramesEach, DependsEach, AnyOrder, Prefixes};

@@ -1,3 +1,5 @@
+#![tactic(auto)]
+
 // Examples of what the machine says, lists and holds, each on a machine of its own.
 #[cfg(test)]
 mod tests {

@@ -1,9 +1,9 @@
 -- The law of many events: an order that keeps the clashing pairs in order makes no difference.
 use Rattle.std.proofs.Common.{◌≡◌, ℕ, zero, suc, ◌<◌, Bool, ◌⊎◌, List, [], ◌∷◌, map, length, sym, refl, ap, ◌∙◌, subst, ap₂, inl, inr, arith}
 use mathlib.Core.Path.{fun_ext}
-use mathlib.Core.Option.{Option, none, some}
+use mathlib.Core.Option.{some}
 use Rattle.law.specs.Trees.{Tree, Contents, Tells, Clash, run}
-use Rattle.law.specs.Order.{Report, report, reports, final, at, In, Before, Distinct, Order, Taken, KeepsClashes, Same, Reordering}
+use Rattle.law.specs.Order.{Report, report, reports, final, at, In, Before, Distinct, Taken, Same, Reordering}
 use Rattle.law.proofs.Single.{diamond}
 
 -- a list without one of its entries, which may be drawn past each entry x before it that is Free

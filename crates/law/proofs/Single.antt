@@ -1,9 +1,9 @@
 -- The laws of one event, and of two.
-use Rattle.std.proofs.Common.{◌≡◌, ℕ, Bool, true, false, cond, ◌⊎◌, List, [], ◌∷◌, ◌++◌, Ok, Err, Result, sym, refl, ap, ◌∙◌, subst, ap₂, inl, inr, true≢false}
+use Rattle.std.proofs.Common.{◌≡◌, ℕ, Bool, true, false, cond, ◌⊎◌, List, [], ◌∷◌, Ok, Err, Result, sym, refl, ap, ◌∙◌, subst, ap₂, inl, inr, true≢false}
 use Rattle.law.specs.declared.Entry.{Entry}
 use Rattle.law.specs.declared.Entry.TheVariants.{Read, Changed}
-use Rattle.law.specs.Trees.{Tree, ret, refuse, look, change, Contents, Tells, Outcome, Reads, Changes, Clash, only_reads, poke, go, kept, left_in, run, bind, go_on}
-use Rattle.law.specs.Order.{Report, report, Same, Joining, Frame, Dependence, Diamond}
+use Rattle.law.specs.Trees.{Tree, ret, refuse, look, change, Contents, Tells, Outcome, Reads, Changes, only_reads, poke, go, kept, left_in, run, go_on}
+use Rattle.law.specs.Order.{Joining, Frame, Dependence, Diamond}
 
 seen_kept : {C A R : Type 0} (e : Result A R) (t : List (Entry C)) (x : C) → Reads x t → Reads x (kept e t)
 seen_kept (Ok a) t x h = h

@@ -1,4 +1,6 @@
 // The law of order: for any cells C, answers A and B and refusals R.
+#![tactic(auto)]
+
 ghost use Rattle.std.specs.Prelude.{◌≡◌};
 ghost use Rattle.law.specs.Bites.{NotEmpty};
 ghost use Rattle.law.specs.Entries.{cell_of, touch_number};

@@ -1,21 +1,20 @@
 -- From what the code did to the run of the event's tree.
-use Rattle.std.proofs.Common.{◌≡◌, ℕ, ◌≤◌, Bool, true, false, cond, ltb, List, [], length, IsErrAnd, Ok, Err, Result, sym, refl, ap, ◌∙◌, subst, ap₂, arith}
+use Rattle.std.proofs.Common.{◌≡◌, ℕ, ◌≤◌, Bool, true, false, ltb, List, length, IsErrAnd, Ok, Err, Result, sym, refl, ap, ◌∙◌, subst, arith}
 use Rattle.std.specs.Borrow.{MutBor}
 use Rattle.std.proofs.lemmas.Result.{err_from_is_err_and}
-use Rattle.law.specs.Trees.{refuse, Contents, Outcome, run, go, kept, left_in, only_reads}
+use Rattle.law.specs.Trees.{Contents, run, go, kept, left_in}
 use Rattle.law.specs.declared.Entry.{Entry}
-use Rattle.words.specs.declared.Reason.TheVariants.{RamLength, NoSuchThing, ShortTrail}
 use Rattle.words.specs.declared.Refusal.{Refusal}
 use Rattle.cells.specs.Cells.{same}
 use Rattle.cells.specs.Runs.{Steps, Finds, Goes}
-use Rattle.cells.specs.Trails.{over, Grows, Fresh}
+use Rattle.cells.specs.Trails.{over, Fresh}
 use Rattle.cells.specs.declared.Cell.{Cell}
 use Rattle.cells.specs.declared.Trail.{Trail}
 use Rattle.cells.proofs.Bounds.{Short}
 use Rattle.cells.proofs.Noting.{finished}
 use Rattle.perform.specs.declared.Answer.{Answer}
-use Rattle.machine.specs.Calls.{counted, early_refusal, first_tests, Ends, Did}
-use Rattle.machine.specs.Events.{plain, ram_fits, guarded, admitted}
+use Rattle.machine.specs.Calls.{counted, first_tests, Ends, Did}
+use Rattle.machine.specs.Events.{ram_fits, guarded, admitted}
 use Rattle.machine.specs.declared.Answered.{Answered}
 use Rattle.machine.specs.declared.Refused.{Refused}
 

@@ -5,7 +5,7 @@ use Rattle.words.specs.declared.Reason.{Reason}
 use Rattle.words.specs.declared.Reason.TheVariants.{RamLength, NoSuchThing, ShortTrail, NotIdle}
 use Rattle.words.specs.declared.Refusal.{Refusal}
 use Rattle.words.specs.declared.Site.{Site}
-use Rattle.cells.specs.declared.Cell.TheVariants.{Ram, Register, Place, State, Delay, Input}
+use Rattle.cells.specs.declared.Cell.TheVariants.{Ram, Place, State, Delay, Input}
 use Rattle.cells.specs.Runs.{Steps}
 use Rattle.store.specs.View.{state_number, level}
 use Rattle.store.specs.declared.State.TheVariants as state

@@ -1,4 +1,6 @@
 // The machine: 32 tasks, RAM and flags between a card of inputs and a card of outputs, and the events that change it.
+#![tactic(auto)]
+
 ghost use Rattle.std.specs.Prelude.{◌≡◌, ℕ, ◌<◌, ◌≤◌, Bool, List, length, Ok, Decides};
 ghost use Rattle.cells.specs.declared.Cell.{Cell as CellOf};
 ghost use Rattle.cells.specs.Runs.{Finds, Goes};

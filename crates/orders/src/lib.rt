@@ -1,3 +1,5 @@
+#![tactic(auto)]
+
 // Every order of seven events that keeps the clashing pairs, tried: the law of order, seen once.
 #[cfg(test)]
 mod tests {

@@ -1,5 +1,4 @@
 -- How long the trails of actions and of the task events are.
-use mathlib.Core.Bool.{Bool}
 use Prim.Native.Nat.{ℕ, zero, suc, ◌*◌}
 use native.Mathlib.Omega.{arith}
 use Rattle.cells.proofs.Bounds.{Short, short_ret, short_look, short_change, short_cond, short_bind, shorter}

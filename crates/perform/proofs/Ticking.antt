@@ -1,9 +1,9 @@
 -- Tasks counted down one after the other.
-use mathlib.Core.Path.{◌≡◌, sym, subst}
-use Prim.Native.Nat.{ℕ, suc, ◌+◌}
+use mathlib.Core.Path.{sym}
+use Prim.Native.Nat.{ℕ, ◌+◌}
 use native.Mathlib.Numerals.{add-one}
 use Rattle.law.specs.Trees.{Contents}
-use Rattle.cells.specs.Runs.{Steps, Goes}
+use Rattle.cells.specs.Runs.{Goes}
 use Rattle.cells.specs.declared.Cell.{Cell}
 use Rattle.cells.specs.declared.Trail.{Trail}
 use Rattle.cells.proofs.Following.{go_ret, go_bind, go_at}

@@ -1,5 +1,5 @@
 -- What each action reads and changes.
-use Rattle.std.specs.Prelude.{Bool, not, cond, ℕ, zero, suc, ◌-◌, eqb}
+use Rattle.std.specs.Prelude.{Bool, cond, ℕ, zero, suc, ◌-◌, eqb}
 use Rattle.law.specs.Trees.{ret, look, change, bind}
 use Rattle.cells.specs.declared.Cell.{Cell}
 use Rattle.cells.specs.declared.Cell.TheVariants.{Register, Place, State, Delay}

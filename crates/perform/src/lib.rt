@@ -1,4 +1,6 @@
 // What a turn changes. Nothing here can refuse.
+#![tactic(auto)]
+
 ghost use Rattle.std.specs.Prelude.{◌≡◌, Bool, List, ℕ, ◌<◌};
 ghost use Rattle.cells.specs.declared.Cell.TheVariants.{Register, Delay};
 ghost use Rattle.cells.specs.Runs.{Goes};

@@ -1,5 +1,5 @@
 -- A plan lists at most four entries: three words and a register.
-use Rattle.std.proofs.Common.{ℕ, Bool, Ok, Err, Result}
+use Rattle.std.proofs.Common.{ℕ, Ok, Err, Result}
 use Rattle.words.specs.declared.Command.{Command}
 use Rattle.words.specs.declared.Head.{Head}
 use Rattle.words.specs.declared.Layout.{Layout}
@@ -11,9 +11,8 @@ use Rattle.words.specs.Codes.{layout}
 use Rattle.words.specs.Words.{head}
 use Rattle.cells.specs.Runs.{lift}
 use Rattle.cells.proofs.Bounds.{Short, short_ret, short_refuse, short_look, short_cond, short_bind}
-use Rattle.plan.specs.Actions.{value, take_operands, plan}
-use Rattle.plan.specs.Fetch.{word, jump_word, source_word, operand_words, fetch_from, fetch}
-use Rattle.plan.specs.declared.Fetched.{Fetched}
+use Rattle.plan.specs.Actions.{value, plan}
+use Rattle.plan.specs.Fetch.{word, jump_word, source_word, operand_words, fetch}
 
 short_lift : {A : Type 0} (r : Result A Refusal) → Short 0 (lift r)
 short_lift (Ok a) = short_ret

@@ -1,5 +1,5 @@
 -- From a fetched command to the action that is left of it: operands are taken, then tested.
-use Rattle.std.specs.Prelude.{ℕ, Bool, cond, Ok, Err, Result, nat_lt}
+use Rattle.std.specs.Prelude.{ℕ, cond, Ok, Err, Result, nat_lt}
 use Rattle.law.specs.Trees.{ret, look, bind}
 use Rattle.words.specs.Words.{refusal_at}
 use Rattle.words.specs.declared.Command.{Command}

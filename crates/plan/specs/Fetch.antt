@@ -1,5 +1,5 @@
 -- Fetching a command: the head, the jump address, then the data of the pair. Each word is checked as it is fetched.
-use Rattle.std.specs.Prelude.{ℕ, ◌+◌, ◌%◌, Bool, cond, ◌==◌, nat_lt}
+use Rattle.std.specs.Prelude.{ℕ, ◌+◌, ◌%◌, cond, ◌==◌, nat_lt}
 use Rattle.law.specs.Trees.{ret, refuse, look, bind}
 use Rattle.words.specs.Codes.{before_data, length_of, layout, decoded}
 use Rattle.words.specs.Words.{refusal_at, head, source, base}

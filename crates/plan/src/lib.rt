@@ -1,4 +1,6 @@
 // What a turn reads before it changes anything: the words of its command and the operands. Only this part can refuse.
+#![tactic(auto)]
+
 ghost use Rattle.std.specs.Prelude.{◌≡◌, ℕ, ◌<◌, Bool, List, length, IfOk, Ok};
 ghost use Rattle.cells.specs.Runs.{Finds};
 ghost use Rattle.store.specs.View.{view};

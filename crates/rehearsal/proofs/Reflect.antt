@@ -1,7 +1,7 @@
 -- What the tests say, in the words of the law.
-use Rattle.std.proofs.Common.{◌≡◌, ℕ, zero, suc, ◌+◌, ◌<◌, ◌≤◌, Bool, true, false, cond, eqb, ltb, ◌⊎◌, List, [], ◌∷◌, ◌++◌, map, length, get_or, take, set, Some, None, Ok, Option, sym, refl, ap, ◌∙◌, subst, ap₂, inl, inr, le_of_suc-le-suc, not-suc-le-zero, add-one, arith, take-suc, take-suc-set, ltb-true, lt-ltb, eq-eqb, eqb-true}
+use Rattle.std.proofs.Common.{◌≡◌, ℕ, zero, suc, ◌+◌, ◌<◌, Bool, true, false, cond, eqb, ltb, ◌⊎◌, List, [], ◌∷◌, map, length, get_or, take, set, Some, None, Ok, Option, sym, refl, ap, ◌∙◌, subst, ap₂, inl, inr, le_of_suc-le-suc, not-suc-le-zero, add-one, arith, take-suc, take-suc-set, ltb-true, lt-ltb, eq-eqb, eqb-true}
 use mathlib.Core.List.{map-append}
-use mathlib.Core.Option.{some, none}
+use mathlib.Core.Option.{some}
 use Rattle.law.specs.declared.Entry.{Entry}
 use Rattle.law.specs.declared.Entry.TheVariants.{Read, Changed}
 use Rattle.law.specs.Entries.{cell_of}
@@ -20,10 +20,10 @@ use Rattle.events.specs.declared.Ask.TheVariants.{Tick}
 use Rattle.events.specs.declared.Event.{Event}
 use Rattle.events.specs.declared.Report.{Report}
 use Rattle.events.specs.Events.{tree, told, Does}
-use Rattle.events.specs.Rows.{Tellings, Runs, AnyOrder}
+use Rattle.events.specs.Rows.{Runs, AnyOrder}
 use Rattle.events.proofs.Lawful.{runs_more}
 use Rattle.rehearsal.specs.declared.Swap.{Swap}
-use Rattle.rehearsal.specs.Tests.{any, or_else, first, lists?, touch?, hit?, clash?, member?, before?, distinct?, within?, swap?, Fine, Broken, BrokenAfter}
+use Rattle.rehearsal.specs.Tests.{or_else, lists?, hit?, clash?, member?, before?, distinct?, within?, swap?, Fine, Broken, BrokenAfter}
 use Rattle.rehearsal.specs.Rehearsals.{IsOrder, picked, Within, Swapped}
 
 no_way : {P : Type 0} → false ≡ true → P

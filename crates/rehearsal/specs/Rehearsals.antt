@@ -1,16 +1,14 @@
 -- What a rehearsal of the same events on two machines comes to.
 use Rattle.std.specs.Prelude.{◌≡◌, ℕ, ◌<◌, ◌≤◌, ◌⊎◌, List, map, length, Some, Ok, Err, Result, slice_index, slice_index_or}
-use Rattle.std.proofs.Math.Option.{Option, some}
-use Rattle.law.specs.Trees.{Contents, Changes, Lists, Clash}
-use Rattle.law.specs.Order.{Report as Told, at, Before, Order, Taken, KeepsClashes, Same}
+use Rattle.std.proofs.Math.Option.{some}
+use Rattle.law.specs.Trees.{Changes, Lists, Clash}
+use Rattle.law.specs.Order.{Report as Told, at, Before, Order, KeepsClashes}
 use Rattle.words.specs.declared.Refusal.{Refusal}
 use Rattle.cells.specs.declared.Cell.{Cell}
 use Rattle.perform.specs.declared.Answer.{Answer}
 use Rattle.events.specs.declared.Ask.TheVariants.{Tick}
 use Rattle.events.specs.declared.Event.{Event}
-use Rattle.events.specs.declared.Report.{Report}
-use Rattle.events.specs.Events.{told}
-use Rattle.events.specs.Rows.{Tellings, Runs}
+use Rattle.events.specs.Rows.{Tellings}
 use Rattle.rehearsal.specs.declared.Objection.{Objection}
 use Rattle.rehearsal.specs.declared.Objection.TheVariants.{NoRoom, NoOrder, OtherStart, Swaps}
 use Rattle.rehearsal.specs.declared.Swap.{Swap}

@@ -1,4 +1,6 @@
 // The same events on two machines, in two orders.
+#![tactic(auto)]
+
 ghost use Rattle.std.specs.Prelude.{◌≡◌, ℕ, ◌+◌, ◌<◌, ◌≤◌, true, false, List, map, length, take, drop, Decides, MatchOption, MatchResult, OnOk};
 ghost use Rattle.law.specs.Order.{Taken, Same};
 ghost use Rattle.machine.specs.Calls.{cells_of, Equal};

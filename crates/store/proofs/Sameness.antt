@@ -19,5 +19,5 @@ tasks_decide a b =
     (λ q i. record { registers = q.1.1 i; place = q.0.0 i; state = q.0.1 i; delay = q.1.0 i })
     (λ e. ((ap (λ (k : Task). k.place) e, ap (λ (k : Task). k.state) e), (ap (λ (k : Task). k.delay) e, ap (λ (k : Task). k.registers) e)))
     (Decides-and _ _
-      (Decides-and _ _ (Decides-eqb a.place b.place) (states_decide a.state b.state))
-      (Decides-and _ _ (Decides-eqb a.delay b.delay) (slice_eq-Decides Decides-eqb a.registers b.registers _ refl)))
+    (Decides-and _ _ (Decides-eqb a.place b.place) (states_decide a.state b.state))
+    (Decides-and _ _ (Decides-eqb a.delay b.delay) (slice_eq-Decides Decides-eqb a.registers b.registers _ refl)))

@@ -1,4 +1,6 @@
 // The tasks and flags of a machine, and RAM: each kind of cell is read and changed here, with its entry in the trail.
+#![tactic(auto)]
+
 ghost use Rattle.std.specs.Prelude.{◌≡◌, ℕ, ◌<◌, Bool, List, length, Decides};
 ghost use Rattle.cells.specs.declared.Cell.{Cell};
 ghost use Rattle.cells.specs.declared.Cell.TheVariants.{Register, Place, State as StateCell, Delay, Flag, Ram};

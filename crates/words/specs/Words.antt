@@ -1,5 +1,5 @@
 -- What the parts of a command word mean.
-use Rattle.std.specs.Prelude.{ℕ, ◌+◌, ◌/◌, ◌%◌, ◌<◌, Bool, cond, ◌&&◌, Ok, Err, Result, ◌==◌, nat_lt}
+use Rattle.std.specs.Prelude.{ℕ, ◌+◌, ◌/◌, ◌%◌, ◌<◌, Bool, cond, Ok, Err, Result, ◌==◌, nat_lt}
 use Rattle.words.specs.declared.Control.{Control}
 use Rattle.words.specs.declared.Head.{Head}
 use Rattle.words.specs.declared.Operand.{Operand}

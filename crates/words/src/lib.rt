@@ -1,4 +1,6 @@
 // Command words: what a head, the table of codes and a data word say.
+#![tactic(auto)]
+
 ghost use Rattle.std.specs.Prelude.{◌≡◌, ◌%◌, IfOk};
 ghost use Rattle.words.specs.Numbers.{reason_number};
 ghost use Rattle.words.specs.Codes.{admits, at_fault, before_data, length_of, layout, decoded};

@@ -1,5 +1,4 @@
-use Rattle.std.proofs.Common.{◌≡◌, ◌<◌, length, take, refl, arith, le-ltb}
-use borrow.Author.Tests.{le-false, lt-true}
+use Rattle.std.proofs.Common.{◌≡◌, ◌<◌, length, refl, arith, le-ltb}
 use lib.Seq.{take-length}
 use Rattle.events.proofs.Lawful.{runs_none, runs_next, rest_next, frames_hold, depends_hold, any_order, prefixes}
 use Rattle.events.proofs.run.Goals as goal

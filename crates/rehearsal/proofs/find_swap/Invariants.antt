@@ -1,4 +1,4 @@
-use Rattle.std.proofs.Common.{◌≡◌, ℕ, ◌<◌, length}
+use Rattle.std.proofs.Common.{ℕ, ◌<◌, length}
 use Rattle.rehearsal.specs.Tests.{Fine}
 use Rattle.rehearsal.proofs.find_swap.Given as goal
 

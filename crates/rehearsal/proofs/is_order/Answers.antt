@@ -1,5 +1,5 @@
-use Rattle.std.proofs.Common.{Bool, true, false, sym, refl}
-use Rattle.rehearsal.proofs.Reflect.{order_is, not_within, not_distinct, not_missing, no_case, no_case', true_or_false}
+use Rattle.std.proofs.Common.{sym}
+use Rattle.rehearsal.proofs.Reflect.{order_is, not_within, not_distinct, not_missing, no_case, true_or_false}
 use Rattle.rehearsal.proofs.is_order.Goals as goal
 
 pub returns-then-order-n : goal.returns-then-order-n

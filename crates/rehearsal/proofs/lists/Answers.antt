@@ -1,4 +1,4 @@
-use Rattle.std.proofs.Common.{Bool, sym, ap, ◌∙◌}
+use Rattle.std.proofs.Common.{sym, ap, ◌∙◌}
 use Rattle.cells.specs.Cells.{same}
 use Rattle.rehearsal.proofs.Scans.{hit, miss, none_left}
 use Rattle.rehearsal.proofs.lists.Goals as goal

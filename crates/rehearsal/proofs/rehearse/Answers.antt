@@ -1,6 +1,6 @@
 use Rattle.std.proofs.Common.{◌≡◌, ℕ, ◌-◌, ◌<◌, length, take, sym, refl, ap, subst, arith}
 use Rattle.rehearsal.specs.Tests.{Fine, Broken}
-use Rattle.rehearsal.specs.Rehearsals.{no_room, no_order, other_start, swaps, alike, Room}
+use Rattle.rehearsal.specs.Rehearsals.{no_room, no_order, other_start, swaps, alike}
 use Rattle.rehearsal.proofs.Reflect.{keeps_is, swapped_is, order_within, same_start, both_alike, no_case'}
 use Rattle.rehearsal.proofs.rehearse.Goals as goal
 

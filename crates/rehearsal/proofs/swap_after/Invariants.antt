@@ -1,4 +1,4 @@
-use Rattle.std.proofs.Common.{◌≡◌, ℕ, ◌<◌}
+use Rattle.std.proofs.Common.{ℕ, ◌<◌}
 use Rattle.rehearsal.specs.Tests.{Fine}
 use Rattle.rehearsal.proofs.swap_after.Given as goal
 

@@ -1,4 +1,4 @@
-use Rattle.std.proofs.Common.{◌≡◌, Bool, true, false, not, List, length, get_or, sym, refl, ap, ◌∙◌, arith, ext_get_or, below_more}
+use Rattle.std.proofs.Common.{◌≡◌, Bool, true, false, not, sym, refl, ◌∙◌, arith, ext_get_or, below_more}
 use mathlib.Core.Bool.{beq}
 use Rattle.store.proofs.same_lines.Goals as goal
 

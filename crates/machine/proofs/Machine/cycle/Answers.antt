@@ -1,5 +1,5 @@
 use Rattle.std.proofs.Common.{refl, eq-eqb, ne_eqb}
-use Rattle.cells.proofs.Following.{find_look, find_bind, find_break, found, go_look, go_ret, go_bind}
+use Rattle.cells.proofs.Following.{find_look, find_break, found, go_look, go_ret, go_bind}
 use Rattle.machine.proofs.Calling.{ends_refused}
 use Rattle.machine.proofs.Machine.cycle.Goals as goal
 

@@ -1,4 +1,4 @@
-use Rattle.std.proofs.Common.{true, ltb, length, rules}
+use Rattle.std.proofs.Common.{ltb, length, rules}
 use Rattle.perform.specs.Perform.{kill}
 use Rattle.machine.proofs.Calling.{did_break, did_pass, did_go}
 use Rattle.machine.proofs.Lengths.{short_end}

@@ -1,11 +1,10 @@
-use Rattle.std.proofs.Common.{◌≤◌, ltb, length, rules}
+use Rattle.std.proofs.Common.{ltb, length, rules}
 use Rattle.law.specs.Trees.{ret, change}
-use Rattle.cells.specs.declared.Cell.TheVariants.{Ram, Input}
+use Rattle.cells.specs.declared.Cell.TheVariants.{Ram}
 use Rattle.cells.proofs.Following.{go_change, go_ret}
-use Rattle.cells.proofs.Bounds.{short_change, short_ret, shorter}
+use Rattle.cells.proofs.Bounds.{short_change, short_ret}
 use Rattle.perform.specs.declared.Answer.TheVariants.{Done}
-use Rattle.store.specs.View.{level}
-use Rattle.machine.proofs.Calling.{did_break, did_pass, did_go}
+use Rattle.machine.proofs.Calling.{did_pass, did_go}
 use Rattle.machine.proofs.Machine.place.Goals as goal
 
 pub returns : goal.returns

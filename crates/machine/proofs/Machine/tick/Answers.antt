@@ -1,4 +1,4 @@
-use Rattle.std.proofs.Common.{true, ltb, length, rules}
+use Rattle.std.proofs.Common.{true, length, rules}
 use Rattle.perform.specs.Perform.{ticks}
 use Rattle.machine.proofs.Calling.{did_break, did_pass, did_go}
 use Rattle.machine.proofs.Lengths.{short_tick}
