@@ -1,11 +1,11 @@
 -- From the shift that a source asks for to what the shifts answer.
-use Rattle.std.proofs.Common.{◌≡◌, ℕ, zero, suc, ◌*◌, ◌%◌, ◌^◌, ◌<◌, ◌≤◌, cond, leb, ℤ, pos, neg_ℤ, nat_abs, Some, None, Option, sym, refl, ap, ◌∙◌, subst, mod-eq_of_lt, arith, pow_pos}
+use Rattle.std.proofs.Common.{◌≡◌, ℕ, zero, suc, ◌*◌, ◌%◌, ◌^◌, ◌<◌, ◌≤◌, cond, leb, ℤ, pos, neg_ℤ, nat_abs, Some, None, Option, sym, ap, ◌∙◌, subst, mod-eq_of_lt, arith, pow_pos}
 use lib.Signed.{shr_z}
 use Rattle.std.proofs.lemmas.Bool.{cond-true, cond-false, le-leb, lt-leb}
 use Rattle.arith.specs.declared.shifts.Shift.{Shift}
 use Rattle.arith.specs.declared.shifts.Shift.TheVariants.{Left, Right}
 use Rattle.arith.specs.Words.{signed, word_of}
-use Rattle.arith.specs.Shifts.{direction, shift_of, by_shift, shifted, arithmetic_shift, rotation}
+use Rattle.arith.specs.Shifts.{direction, by_shift, shifted, arithmetic_shift, rotation}
 use Rattle.arith.specs.Laws.{Floor, Arithmetic, Rotation, Turned}
 use Rattle.arith.proofs.Readings.{signed_fits, shift_fits, signed_word}
 use Rattle.arith.proofs.Rounding.{left_over, floor_by_shift, floor_by_one}

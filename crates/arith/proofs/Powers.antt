@@ -1,10 +1,10 @@
 -- Shifts are products and quotients by a power of two.
-use Rattle.std.proofs.Common.{◌≡◌, ℕ, ◌+◌, ◌-◌, ◌*◌, ◌/◌, ◌%◌, ◌^◌, ◌<◌, ◌≤◌, min, ℤ, pos, negsuc, ◌≤ℤ◌, ◌<ℤ◌, Some, None, Option, unwrap_or, sym, refl, ap, ◌∙◌, ap₂, inl, inr, ⊎_elim, lt_of_lt_of_le, mul_assoc, arith, pow_mono, pow-add, w16, SFits, to_z, of_z}
+use Rattle.std.proofs.Common.{◌≡◌, ℕ, ◌+◌, ◌-◌, ◌*◌, ◌/◌, ◌%◌, ◌^◌, ◌<◌, ◌≤◌, min, ℤ, pos, negsuc, Some, None, Option, unwrap_or, sym, ap, ◌∙◌, ap₂, ⊎_elim, lt_of_lt_of_le, mul_assoc, arith, pow_mono, pow-add, w16, SFits, to_z, of_z}
 use native.Mathlib.Nat.{mul-mod_left, div-eq_of_lt}
 use lib.Signed.{shr_z}
 use Rattle.std.specs.Option.{SomeIff}
 use Rattle.std.proofs.lemmas.Bool.{cases_lt}
-use Rattle.arith.specs.Words.{signed, word_of}
+use Rattle.arith.specs.Words.{signed}
 use Rattle.arith.specs.Shifts.{left_by, right_by, right_by_sign}
 use Rattle.arith.proofs.Readings.{signed_fits, shift_fits, size, word_again, reread}
 

@@ -1,6 +1,5 @@
 -- Words and the integers that they stand for.
 use Rattle.std.proofs.Common.{◌≡◌, ℕ, zero, suc, ◌+◌, ◌-◌, ◌/◌, ◌%◌, ◌^◌, ◌<◌, ◌≤◌, Bool, true, false, ltb, ℤ, pos, negsuc, ◌+ℤ◌, ◌-ℤ◌, neg_ℤ, nat_abs, sym, refl, ap, ◌∙◌, div-le_self, arith, w16, SFits, to_z, of_z}
-use native.Mathlib.Nat.{mod-le}
 use lib.IntN.{pred_ℤ, -ℤ_one}
 use lib.Signed.{quot_z, rem_z, shr_z, mag_rem, mag_shr}
 use mir.Val.{sel}

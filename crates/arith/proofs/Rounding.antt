@@ -1,7 +1,7 @@
 -- The two ways to round a signed quotient.
-use Rattle.std.proofs.Common.{◌≡◌, ℕ, zero, suc, ◌+◌, ◌-◌, ◌*◌, ◌/◌, ◌%◌, ◌<◌, Bool, true, false, cond, ℤ, pos, negsuc, ◌+ℤ◌, ◌-ℤ◌, ◌*ℤ◌, neg_ℤ, nat_abs, ◌≤ℤ◌, ◌<ℤ◌, sym, refl, ap, ◌∙◌, inl, inr, mod-lt, mul-zero, mul-suc, arith}
+use Rattle.std.proofs.Common.{◌≡◌, ℕ, zero, suc, ◌+◌, ◌-◌, ◌*◌, ◌/◌, ◌%◌, ◌<◌, Bool, true, false, cond, ℤ, pos, negsuc, ◌+ℤ◌, ◌-ℤ◌, ◌*ℤ◌, neg_ℤ, nat_abs, ◌≤ℤ◌, sym, refl, ap, ◌∙◌, inl, inr, mod-lt, mul-zero, mul-suc, arith}
 use native.Mathlib.Nat.{div-add-mod}
-use lib.IntN.{pred_ℤ, neg_ℤ-+ℤ, pred_ℤ-*ℤ, *ℤ_comm, -ℤ_one}
+use lib.IntN.{neg_ℤ-+ℤ, pred_ℤ-*ℤ, *ℤ_comm, -ℤ_one}
 use lib.Signed.{quot_z, rem_z, shr_z}
 use Rattle.std.proofs.lemmas.Int.{ints}
 use Rattle.arith.specs.Divisions.{opposed, floor_quotient, floor_remainder}

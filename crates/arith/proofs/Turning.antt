@@ -1,5 +1,5 @@
 -- A rotation takes each bit to another place.
-use Rattle.std.proofs.Common.{◌≡◌, ℕ, zero, suc, ◌+◌, ◌-◌, ◌*◌, ◌/◌, ◌%◌, ◌^◌, ◌<◌, ◌≤◌, sym, refl, ap, ◌∙◌, subst, ap₂, ⊎_elim, add-zero, mul_assoc, arith, pow_pos, pow-add}
+use Rattle.std.proofs.Common.{◌≡◌, ℕ, zero, suc, ◌+◌, ◌-◌, ◌*◌, ◌/◌, ◌%◌, ◌^◌, ◌<◌, ◌≤◌, sym, ap, ◌∙◌, subst, ap₂, ⊎_elim, add-zero, mul_assoc, arith, pow_pos, pow-add}
 use native.Mathlib.Nat.{mul-mod_left, mul-add-div_right, mul-add-mod_self_right}
 use lib.Bits.{bit_or, or_self}
 use lib.Pow.{mod-mod-pow}

@@ -1,5 +1,7 @@
 // 16-bit arithmetic: what an operation makes of two words, and how two words compare. A word is read as it stands, as a
 // signed number, or as two bytes.
+#![tactic(auto)]
+
 ghost use Rattle.std.specs.Prelude.{◌≡◌};
 ghost use Rattle.arith.specs.Words.{high, low, widened, joined};
 ghost use Rattle.arith.specs.Operations.{computed};

@@ -4,4 +4,4 @@ use Rattle.arith.proofs.shifts.shift_left.Goals as goal
 
 pub returns : goal.returns
 returns c =
-    c.unwrap-or.ensures ∙ shl_out c.checked-shl.result c.args.word c.args.by c.checked-shl.ensures
+    c.unwrap_or.ensures ∙ shl_out c.checked_shl.result c.args.word c.args.by c.checked_shl.ensures

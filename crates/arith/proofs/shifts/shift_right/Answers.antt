@@ -4,5 +4,5 @@ use Rattle.arith.proofs.shifts.shift_right.Goals as goal
 
 pub returns : goal.returns
 returns c =
-    c.unwrap-or.ensures
-    ∙ shr_out c.checked-shr.result c.args.word c.args.by (omega arith) c.checked-shr.ensures
+    c.unwrap_or.ensures
+    ∙ shr_out c.checked_shr.result c.args.word c.args.by (omega arith) c.checked_shr.ensures
