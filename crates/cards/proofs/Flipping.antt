@@ -2,7 +2,7 @@
 use Rattle.std.proofs.Common.{◌≡◌, ℕ, ◌<◌, Bool, true, false, not, List, length, get_or, set, sym, refl, ap, ◌∙◌, get_or-set_other, get_or-set_same}
 use mathlib.Core.Bool.{beq}
 use Rattle.cards.specs.Flips.{flip, flipped_line, flipped}
-use Rattle.cards.specs.Rows.{lines_at, lines_set}
+use Rattle.cards.proofs.Rows.{lines_at, lines_set}
 
 -- the code flips by `^`
 flip_xor : (m x : Bool) → not (beq x m) ≡ flip m x

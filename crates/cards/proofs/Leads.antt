@@ -3,7 +3,7 @@ use Rattle.std.proofs.Common.{◌≡◌, ℕ, ◌<◌, Bool, true, false, cond, 
 use Rattle.std.proofs.lemmas.List.FromFn.{length-range_with_len, get_or-range_with_len}
 use Rattle.cards.specs.Contacts.{OneToOne, straight, exchanged, after_exchange}
 use Rattle.cards.specs.Crosses.{crossed_line, crossed}
-use Rattle.cards.specs.Rows.{lines_at, lines_same, lines_set}
+use Rattle.cards.proofs.Rows.{lines_at, lines_same, lines_set}
 
 straight_at : (i : ℕ) → i < 256 → get_or straight i 0 ≡ i
 unfolding straight

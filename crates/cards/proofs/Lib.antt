@@ -1,3 +1,4 @@
+pub mod Rows
 pub mod Packs
 pub mod Switches
 pub mod Flipping

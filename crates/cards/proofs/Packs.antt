@@ -6,7 +6,7 @@ use lib.Bits.{bit_xor}
 use lib.ListN.{get_or-replicate}
 use Rattle.std.proofs.lemmas.Nat.{xor_shr, xor_mod, shl-shr, pow-add, pow_below}
 use Rattle.cards.specs.Lines.{all_off, bit, line, unpacked}
-use Rattle.cards.specs.Rows.{lines_off, lines_set}
+use Rattle.cards.proofs.Rows.{lines_off, lines_set}
 
 no_bit : (k : ℕ) → bit 0 k ≡ false
 no_bit k = let e : 0 / 2 ^ k ≡ 0 = zero-div (2 ^ k) in rw e

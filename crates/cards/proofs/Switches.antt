@@ -6,7 +6,7 @@ use lib.ListN.{get_or-replicate}
 use lib.Seq.{set-get_or}
 use Rattle.cards.specs.Lines.{all_off, lines_by}
 use Rattle.cards.specs.Counts.{all_zero, odd, worn, switched, counts_after}
-use Rattle.cards.specs.Rows.{lines_off, lines_set, flipped_is}
+use Rattle.cards.proofs.Rows.{lines_off, lines_set, flipped_is}
 
 pub zero_counts : replicate 256 0 ≡ all_zero
 unfolding all_zero

@@ -1,6 +1,7 @@
 -- What the lines of a card are.
-use Rattle.std.specs.Prelude.{ℕ, ◌/◌, ◌%◌, ◌^◌, Bool, false, List, map, replicate, ◌==◌, slice_index}
+use Rattle.std.specs.Prelude.{◌≡◌, ℕ, ◌/◌, ◌%◌, ◌^◌, Bool, false, List, map, replicate, length, ◌==◌, slice_index}
 use Rattle.std.specs.List.{range_with_len}
+use Rattle.std.proofs.lemmas.List.FromFn.{length-map-range_with_len}
 use Rattle.cards.specs.declared.Packed.{Packed}
 
 -- A list of 256 stays shut, since it would be written out wherever it is computed.
@@ -10,6 +11,11 @@ all_off = replicate 256 false
 -- the lines of which line n is what f makes of n
 unfoldable pub lines_by : (ℕ → Bool) → List Bool
 lines_by f = map f (range_with_len 0 256)
+
+-- such lines are 256, which every card owes
+pub length_lines : (f : ℕ → Bool) → length (lines_by f) ≡ 256
+unfolding lines_by
+length_lines f = length-map-range_with_len f 0 256
 
 -- bit k of a byte, the lowest being bit 0
 abbrev pub bit : ℕ → ℕ → Bool

@@ -1,7 +1,7 @@
 // A card that flips some lines of the card below it.
 ghost use Rattle.std.specs.Prelude.{◌≡◌};
+ghost use Rattle.cards.specs.Lines.{length_lines};
 ghost use Rattle.cards.specs.Flips.{flipped, low_lines, flipped_line};
-ghost use Rattle.cards.specs.Rows.{length_lines};
 
 use super::{Card, LINES};
 

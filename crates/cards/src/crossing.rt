@@ -1,8 +1,8 @@
 // A card whose lines are led, one to one, to the lines of the card below it.
 ghost use Rattle.std.specs.Prelude.{◌≡◌, false};
+ghost use Rattle.cards.specs.Lines.{length_lines};
 ghost use Rattle.cards.specs.Contacts.{after_exchange, exchange_told, straight};
 ghost use Rattle.cards.specs.Crosses.{crossing_lines, crossed_line};
-ghost use Rattle.cards.specs.Rows.{length_lines};
 
 use super::contacts::Contacts;
 use super::{Card, CardRefusal, LINES};

@@ -2,9 +2,8 @@
 #![tactic(auto)]
 
 ghost use Rattle.std.specs.Prelude.{◌≡◌, ℕ, Bool, false, List, length, slice_index_or, slice_set};
-ghost use Rattle.cards.specs.Lines.{all_off, packed_lines, line};
+ghost use Rattle.cards.specs.Lines.{all_off, packed_lines, line, length_lines};
 ghost use Rattle.cards.specs.Refusals.{refusal_number};
-ghost use Rattle.cards.specs.Rows.{length_lines};
 
 pub mod active_low;
 mod contacts;

@@ -1,8 +1,7 @@
 // A card that counts how often each line was switched.
 ghost use Rattle.std.specs.Prelude.{◌≡◌, slice_set};
 ghost use Rattle.cards.specs.Counts.{all_zero, count_told, counts_after, worn_lines, worn};
-ghost use Rattle.cards.specs.Lines.{all_off};
-ghost use Rattle.cards.specs.Rows.{length_lines};
+ghost use Rattle.cards.specs.Lines.{all_off, length_lines};
 
 use super::{Card, CardRefusal, LINES};
 

@@ -2,7 +2,7 @@
 use Rattle.std.proofs.Common.{ℕ, arith}
 use Rattle.cells.proofs.Bounds.{Short, short_ret, short_refuse, short_look, short_change, short_cond, short_bind, shorter}
 use Rattle.plan.proofs.Lengths.{short_plan}
-use Rattle.perform.specs.Perform.{kill as kill-task, abort as abort-task, ticks}
+use Rattle.perform.specs.Perform.{kill as kill_task, abort as abort_task, ticks}
 use Rattle.perform.proofs.Lengths.{short_perform, short_ready, short_abort, short_ticks}
 use Rattle.machine.specs.Events.{launch, cycle}
 
@@ -12,10 +12,10 @@ short_launch t a = shorter 200 (short_look {n = 6} (λ s. short_cond _ (short_re
 pub short_tick : Short 200 (ticks 32)
 short_tick = shorter 200 (short_ticks 32) (omega arith)
 
-pub short_end : (t : ℕ) → Short 200 (kill-task t)
+pub short_end : (t : ℕ) → Short 200 (kill_task t)
 short_end t = shorter 200 (short_change {n = 0} short_ret) (omega arith)
 
-pub short_away : (t : ℕ) → Short 200 (abort-task t)
+pub short_away : (t : ℕ) → Short 200 (abort_task t)
 short_away t = shorter 200 (short_abort t) (omega arith)
 
 pub short_cycle : (size t : ℕ) → Short 200 (cycle size t)

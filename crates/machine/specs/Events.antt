@@ -10,7 +10,7 @@ use Rattle.cells.specs.Runs.{Steps}
 use Rattle.store.specs.View.{state_number, level}
 use Rattle.store.specs.declared.State.TheVariants as state
 use Rattle.plan.specs.Actions.{plan}
-use Rattle.perform.specs.Perform.{kill as kill-task, abort as abort-task, ready_at, ticks, perform}
+use Rattle.perform.specs.Perform.{kill as kill_task, abort as abort_task, ready_at, ticks, perform}
 use Rattle.perform.specs.declared.Answer.{Answer}
 use Rattle.perform.specs.declared.Answer.TheVariants.{Done, Idle, Waiting}
 
@@ -53,10 +53,10 @@ abbrev pub start : ℕ → ℕ → ℕ → ℕ → Steps Answer
 start size room t a = admitted size room (nat_lt t 32) (launch t a)
 
 abbrev pub kill : ℕ → ℕ → ℕ → Steps Answer
-kill size room t = admitted size room (nat_lt t 32) (kill-task t)
+kill size room t = admitted size room (nat_lt t 32) (kill_task t)
 
 abbrev pub abort : ℕ → ℕ → ℕ → Steps Answer
-abort size room t = admitted size room (nat_lt t 32) (abort-task t)
+abort size room t = admitted size room (nat_lt t 32) (abort_task t)
 
 -- the command at `site`
 abbrev pub command : ℕ → Site → Steps Answer

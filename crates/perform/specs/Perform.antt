@@ -1,5 +1,5 @@
 -- What each action reads and changes.
-use Rattle.std.specs.Prelude.{Bool, cond, ℕ, zero, suc, ◌-◌, eqb}
+use Rattle.std.specs.Prelude.{Bool, cond, ℕ, zero, suc, ◌-◌, ◌==◌}
 use Rattle.law.specs.Trees.{ret, look, change, bind}
 use Rattle.cells.specs.declared.Cell.{Cell}
 use Rattle.cells.specs.declared.Cell.TheVariants.{Register, Place, State, Delay}
@@ -50,14 +50,14 @@ ready_at t a =
 
 -- a task that is not idle jumps to its abort address, or is stopped if that is zero
 abbrev pub abort_to : ℕ → ℕ → Steps Answer
-abort_to t a = cond (eqb a 0) (kill t) (change (Place t) a (change (Register t depth) 0 (ret Done)))
+abort_to t a = cond (a == 0) (kill t) (change (Place t) a (change (Register t depth) 0 (ret Done)))
 
 abbrev pub abort : ℕ → Steps Answer
-abort t = look (State t) (λ s. cond (eqb s (state_number state.Idle)) (ret Done) (look (Register t abort_address) (abort_to t)))
+abort t = look (State t) (λ s. cond (s == state_number state.Idle) (ret Done) (look (Register t abort_address) (abort_to t)))
 
 -- one less, unless it is zero
 abbrev pub count_down : Cell → Steps Answer
-count_down c = look c (λ v. cond (eqb v 0) (ret Done) (change c (v - 1) (ret Done)))
+count_down c = look c (λ v. cond (v == 0) (ret Done) (change c (v - 1) (ret Done)))
 
 -- the timer of a task, then its delay
 abbrev pub tick_task : ℕ → Steps Answer
@@ -70,7 +70,7 @@ ticks (suc n) = bind (ticks n) (λ _. tick_task n)
 
 -- the bit v as a line holds it
 abbrev pub is_level : Bool → ℕ → Bool
-is_level v b = eqb b (level v)
+is_level v b = b == level v
 
 abbrev pub branch : ℕ → Line → Bool → ℕ → ℕ → Steps Answer
 branch t l v to next = look (line_cell l) (λ b. move_on t (cond (is_level v b) to next))
@@ -80,7 +80,7 @@ write t l v next = change (line_cell l) (level v) (move_on t next)
 
 -- on becomes off, and off on
 abbrev pub invert : ℕ → Line → ℕ → Steps Answer
-invert t l next = look (line_cell l) (λ b. change (line_cell l) (cond (eqb b 0) 1 0) (move_on t next))
+invert t l next = look (line_cell l) (λ b. change (line_cell l) (cond (b == 0) 1 0) (move_on t next))
 
 -- while the bit is v the place stays
 abbrev pub halt : ℕ → Line → Bool → ℕ → Steps Answer

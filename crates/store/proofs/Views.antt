@@ -12,10 +12,10 @@ use Rattle.store.specs.declared.State.{State as TaskState}
 use Rattle.store.specs.declared.State.TheVariants.{Idle}
 use Rattle.store.specs.declared.Task.{Task}
 
-get_d_any : {A : Type 0} (xs : List A) (i : ℕ) (d e : A) → i < length xs → get_or xs i d ≡ get_or xs i e
-get_d_any [] i d e h = absurd (not-suc-le-zero h)
-get_d_any (x ∷ xs) zero d e h = refl
-get_d_any (x ∷ xs) (suc i) d e h = get_d_any xs i d e (le_of_suc-le-suc h)
+get_or_any : {A : Type 0} (xs : List A) (i : ℕ) (d e : A) → i < length xs → get_or xs i d ≡ get_or xs i e
+get_or_any [] i d e h = absurd (not-suc-le-zero h)
+get_or_any (x ∷ xs) zero d e h = refl
+get_or_any (x ∷ xs) (suc i) d e h = get_or_any xs i d e (le_of_suc-le-suc h)
 
 -- a list with one element set, at any place
 pub at_set : {A : Type 0} (xs : List A) (i : ℕ) (x d : A) (j : ℕ) → i < length xs → get_or (set xs i x) j d ≡ cond (eqb i j) x (get_or xs j d)
@@ -117,7 +117,7 @@ module _ (b : Board) (is os : List Bool) (ws : List ℕ) (t : ℕ) (h : t < leng
     k = get_or b.tasks t d
 
     was : get_or b.tasks t no_task ≡ k
-    was = get_d_any b.tasks t no_task d h
+    was = get_or_any b.tasks t no_task d h
 
     pub poke_register : (r v : ℕ) → r < length k.registers → (k' : Task) → k' ≡ with_register k r v
         → poke same (Register t r) v (view b is os ws) ≡ view (put k') is os ws

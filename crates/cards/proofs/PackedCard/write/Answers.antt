@@ -2,7 +2,7 @@ use Rattle.std.proofs.Common.{◌/◌, ◌%◌, ◌<◌, length, get_or, ◌∙�
 use Rattle.std.proofs.lemmas.Nat.{one_shl}
 use Rattle.cards.specs.Lines.{line}
 use Rattle.cards.proofs.Packs.{unpacked_set, bit_here, bit_there}
-use Rattle.cards.specs.Rows.{lines_kept, lines_stay, flipped_is, kept_is}
+use Rattle.cards.proofs.Rows.{lines_kept, lines_stay, flipped_is, kept_is}
 use Rattle.cards.proofs.PackedCard.write.Goals as goal
 
 pub returns-then-was-on : goal.returns-then-was-on

@@ -1,7 +1,7 @@
 use Rattle.std.proofs.Common.{sym, arith}
 use Rattle.cards.specs.Flips.{flipped_line}
 use Rattle.cards.proofs.Flipping.{flipped_at}
-use Rattle.cards.specs.Rows.{lines_past}
+use Rattle.cards.proofs.Rows.{lines_past}
 use Rattle.cards.proofs.active_low.ActiveLowCard.read.Goals as goal
 
 pub returns-then-n-lt-LINES : goal.returns-then-n-lt-LINES

@@ -1,7 +1,7 @@
 use Rattle.std.proofs.Common.{arith}
 use Rattle.cards.specs.Flips.{flipped_line}
 use Rattle.cards.proofs.Flipping.{flipped_set}
-use Rattle.cards.specs.Rows.{lines_stay}
+use Rattle.cards.proofs.Rows.{lines_stay}
 use Rattle.cards.proofs.active_low.ActiveLowCard.write.Goals as goal
 
 pub returns-then-n-lt-LINES : goal.returns-then-n-lt-LINES

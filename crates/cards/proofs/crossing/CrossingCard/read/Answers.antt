@@ -1,7 +1,7 @@
 use Rattle.std.proofs.Common.{sym, arith}
 use Rattle.cards.specs.Crosses.{crossed_line}
 use Rattle.cards.proofs.Leads.{crossed_read}
-use Rattle.cards.specs.Rows.{lines_past}
+use Rattle.cards.proofs.Rows.{lines_past}
 use Rattle.cards.proofs.crossing.CrossingCard.read.Goals as goal
 
 pub returns-then-n-lt-LINES : goal.returns-then-n-lt-LINES

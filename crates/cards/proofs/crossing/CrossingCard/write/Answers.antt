@@ -1,7 +1,7 @@
 use Rattle.std.proofs.Common.{arith}
 use Rattle.cards.specs.Crosses.{crossed_line}
 use Rattle.cards.proofs.Leads.{crossed_write}
-use Rattle.cards.specs.Rows.{lines_stay}
+use Rattle.cards.proofs.Rows.{lines_stay}
 use Rattle.cards.proofs.crossing.CrossingCard.write.Goals as goal
 
 pub returns-then-n-lt-LINES : goal.returns-then-n-lt-LINES

@@ -1,6 +1,6 @@
 use Rattle.std.proofs.Common.{sym, arith}
 use Rattle.cards.specs.Counts.{worn}
-use Rattle.cards.specs.Rows.{lines_at, lines_past}
+use Rattle.cards.proofs.Rows.{lines_at, lines_past}
 use Rattle.cards.proofs.wear.WearCard.read.Goals as goal
 
 pub returns-then-n-lt-LINES : goal.returns-then-n-lt-LINES

@@ -1,6 +1,6 @@
 use Rattle.std.proofs.Common.{◌<◌, length, arith, rules}
 use Rattle.cards.specs.Counts.{worn}
-use Rattle.cards.specs.Rows.{lines_kept, lines_stay, kept_is}
+use Rattle.cards.proofs.Rows.{lines_kept, lines_stay, kept_is}
 use Rattle.cards.proofs.Switches.{turned_lines, turned_counts, kept_counts, past_counts}
 use Rattle.cards.proofs.wear.WearCard.write.Goals as goal
 

@@ -6,12 +6,8 @@ use Rattle.std.proofs.lemmas.Bool.{eqb-false}
 use Rattle.std.proofs.lemmas.List.{length-replicate, get_or-replicate, set-get_or}
 use Rattle.std.proofs.Math.ListN.{get_or-eq_default}
 use Rattle.std.proofs.Math.Seq.{set_out}
-use Rattle.std.proofs.lemmas.List.FromFn.{length-map-range_with_len, get_or-map-range_with_len}
-use Rattle.cards.specs.Lines.{all_off, lines_by}
-
-pub length_lines : (f : ℕ → Bool) → length (lines_by f) ≡ 256
-unfolding lines_by
-length_lines f = length-map-range_with_len f 0 256
+use Rattle.std.proofs.lemmas.List.FromFn.{get_or-map-range_with_len}
+use Rattle.cards.specs.Lines.{all_off, lines_by, length_lines}
 
 pub lines_at : (f : ℕ → Bool) (i : ℕ) → i < 256 → slice_index_or (lines_by f) i false ≡ f i
 unfolding lines_by
