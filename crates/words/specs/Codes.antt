@@ -29,22 +29,28 @@ at_fault WrittenBase n = n
 abbrev pub pair : Role → Role → Pair
 pair s d = record { source = s; destination = d }
 
-abbrev pub no_pair : Pair
-no_pair = pair Unused Unused
+-- the roles of a layout's first pair: none is used where it has no pair
+abbrev pub roles : Option Pair → Pair
+roles None = pair Unused Unused
+roles (Some p) = p
 
 -- the layouts: no operand, or one bit, with a jump address or without
 abbrev pub bare : Bool → Layout
-bare jump = record { pairs = 0; jump = jump; first = no_pair; second = no_pair }
+bare jump = record { jump = jump; first = None; second = None }
 
 abbrev pub bit : Bool → Role → Layout
-bit jump b = record { pairs = 1; jump = jump; first = pair Offset b; second = no_pair }
+bit jump b = record { jump = jump; first = Some (pair Offset b); second = None }
 
 -- how many words stand before the data of the pair, and how many there are
 abbrev pub before_data : Layout → ℕ
 before_data l = cond l.jump 2 1
 
+abbrev pub words_of : Option Pair → ℕ
+words_of None = 0
+words_of (Some p) = 1
+
 abbrev pub length_of : Layout → ℕ
-length_of l = cond (l.pairs == 0) (before_data l) (before_data l + 1)
+length_of l = before_data l + words_of l.first
 
 abbrev pub within : ℕ → ℕ → ℕ → Bool
 within a b c = nat_le a c && nat_le c b
@@ -82,4 +88,4 @@ checked (Some c) p h site =
     (Err (refusal_at site WrongMode (at_fault p.source 1)))
 
 abbrev pub decoded : Head → Site → Result Command Refusal
-decoded h site = checked (command h.code) (layout h.code).first h site
+decoded h site = checked (command h.code) (roles (layout h.code).first) h site

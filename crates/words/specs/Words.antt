@@ -1,9 +1,12 @@
 -- What the parts of a command word mean.
-use Rattle.std.specs.Prelude.{ℕ, ◌+◌, ◌/◌, ◌%◌, ◌<◌, Bool, cond, Ok, Err, Result, ◌==◌, nat_lt}
+use Rattle.std.specs.Prelude.{ℕ, ◌/◌, ◌%◌, Bool, cond, Some, None, Ok, Err, Option, Result, ◌==◌, nat_lt}
+use Rattle.arith.specs.Words.{high, low, widened}
+use Rattle.words.specs.declared.Base.{Base}
+use Rattle.words.specs.declared.Base.TheVariants.{Inputs, Outputs, Flags}
 use Rattle.words.specs.declared.Control.{Control}
 use Rattle.words.specs.declared.Head.{Head}
 use Rattle.words.specs.declared.Operand.{Operand}
-use Rattle.words.specs.declared.Operand.TheVariants.{Absent, Immediate, Register, Inputs, Outputs, Flags}
+use Rattle.words.specs.declared.Operand.TheVariants.{Immediate, Register}
 use Rattle.words.specs.declared.Reason.{Reason}
 use Rattle.words.specs.declared.Reason.TheVariants.{WrongMode}
 use Rattle.words.specs.declared.Refusal.{Refusal}
@@ -12,6 +15,10 @@ use Rattle.words.specs.declared.Site.{Site}
 abbrev pub refusal_at : Site → Reason → ℕ → Refusal
 refusal_at site why operand = record { reason = why; task = site.task; place = site.place; operand = operand }
 
+-- the refusals that name no place are all zeros but for the reason
+abbrev pub plain : Reason → Refusal
+plain why = record { reason = why; task = 0; place = 0; operand = 0 }
+
 -- a head holds the code in its high byte, then the mode of the source and that of the destination, four bits each
 abbrev pub head : ℕ → Head
 head w = record { code = w / 256; source = w / 16 % 16; destination = w % 16 }
@@ -19,16 +26,6 @@ head w = record { code = w / 256; source = w / 16 % 16; destination = w % 16 }
 -- a control word is laid out like a head, with a byte that must be 00 in the place of the code
 abbrev pub control : ℕ → Control
 control w = record { fixed = w / 256; source = w / 16 % 16; destination = w % 16 }
-
-abbrev pub high : ℕ → ℕ
-high w = w / 256
-
-abbrev pub low : ℕ → ℕ
-low w = w % 256
-
--- a byte widened to a word by its sign
-abbrev pub widened : ℕ → ℕ
-widened b = cond (nat_lt b 128) b (b + 0xFF00)
 
 -- a part of a word that must be so, or the operand is refused
 abbrev pub must : {A : Type 0} → Bool → Site → ℕ → Result A Refusal → Result A Refusal
@@ -44,14 +41,5 @@ source mode w site operand =
     (Err (refusal_at site WrongMode operand)))))
 
 -- the lines that a base's mode stands for
-abbrev pub base : ℕ → Operand
-base mode = cond (mode == 0xC) Inputs (cond (mode == 0xD) Outputs (cond (mode == 0xE) Flags Absent))
-
--- an operand names a register that there is
-abbrev pub Known : Operand → Type 0
-Known Absent = Unit {0}
-Known (Immediate v) = Unit {0}
-Known (Register r) = r < 128
-Known Inputs = Unit {0}
-Known Outputs = Unit {0}
-Known Flags = Unit {0}
+abbrev pub base : ℕ → Option Base
+base mode = cond (mode == 0xC) (Some Inputs) (cond (mode == 0xD) (Some Outputs) (cond (mode == 0xE) (Some Flags) None))

@@ -1,47 +1,43 @@
 // Command words: what a head, the table of codes and a data word say.
 #![tactic(auto)]
 
-ghost use Rattle.std.specs.Prelude.{◌≡◌, ◌%◌, IfOk};
+ghost use Rattle.std.specs.Prelude.{◌≡◌, ◌%◌};
 ghost use Rattle.words.specs.Numbers.{reason_number};
 ghost use Rattle.words.specs.Codes.{admits, at_fault, before_data, length_of, layout, decoded};
-ghost use Rattle.words.specs.Words.{Known, refusal_at, high, low, head, control, widened, source, base};
+ghost use Rattle.words.specs.Words.{refusal_at, plain, head, control, source, base};
+
+use arith::{high_byte, low_byte, widen};
+
+mod bounded;
+
+pub use bounded::{Below, RegisterNumber, TaskNumber};
 
 // Why a call is refused.
-#[derive(Clone, Copy)]
+#[derive(Clone, Copy, PartialEq, Eq, Debug)]
 pub enum Reason {
-    RamLength,
-    NoSuchThing,
-    ShortTrail,
-    NotIdle,
-    PastRam,
-    UnknownCode,
-    WrongMode,
-    OperandPast,
-    ValueRange,
-    StackDepth,
+    RamLength = 1,
+    NoSuchThing = 2,
+    ShortTrail = 3,
+    NotIdle = 4,
+    PastRam = 5,
+    UnknownCode = 6,
+    WrongMode = 7,
+    OperandPast = 8,
+    ValueRange = 9,
+    StackDepth = 10,
 }
 
 impl Reason {
     pub fn number(self) -> u16
         ensures { result ≡ reason_number self }
     {
-        match self {
-            Reason::RamLength => 1,
-            Reason::NoSuchThing => 2,
-            Reason::ShortTrail => 3,
-            Reason::NotIdle => 4,
-            Reason::PastRam => 5,
-            Reason::UnknownCode => 6,
-            Reason::WrongMode => 7,
-            Reason::OperandPast => 8,
-            Reason::ValueRange => 9,
-            Reason::StackDepth => 10,
-        }
+        self as u16
     }
 }
 
-// A refusal is one record, which every call hands up whole. The operand is 0 where none is at fault.
-#[derive(Clone, Copy)]
+// A refusal is one record, which every call hands up whole. By the rules of the machine its numbers are 0 where it names
+// no task, place or operand.
+#[derive(Clone, Copy, PartialEq, Eq, Debug)]
 pub struct Refusal {
     pub reason: Reason,
     pub task: u8,
@@ -49,8 +45,22 @@ pub struct Refusal {
     pub operand: u8,
 }
 
+// A refusal that names no task, place or operand.
+impl From<Reason> for Refusal {
+    ghost from_gives = { λ reason refusal. refusal ≡ plain reason };
+
+    fn from(reason: Reason) -> Refusal {
+        Refusal {
+            reason,
+            task: 0,
+            place: 0,
+            operand: 0,
+        }
+    }
+}
+
 // Where a command stands: its task, and the address of its head.
-#[derive(Clone, Copy)]
+#[derive(Clone, Copy, PartialEq, Eq, Debug)]
 pub struct Site {
     pub task: u8,
     pub place: u16,
@@ -69,18 +79,6 @@ impl Site {
     }
 }
 
-pub fn high_byte(word: u16) -> u8
-    ensures { result ≡ high word }
-{
-    (word >> 8) as u8
-}
-
-pub fn low_byte(word: u16) -> u8
-    ensures { result ≡ low word }
-{
-    (word & 0xff) as u8
-}
-
 // The lowest four bits.
 fn low_digit(word: u16) -> u8
     ensures { result ≡ word % 16 }
@@ -89,17 +87,17 @@ fn low_digit(word: u16) -> u8
 }
 
 // The first word of a command.
-#[derive(Clone, Copy)]
+#[derive(Clone, Copy, PartialEq, Eq, Debug)]
 pub struct Head {
     pub code: u8,
     pub source: u8,
     pub destination: u8,
 }
 
-impl Head {
-    pub fn new(word: u16) -> Head
-        ensures { result ≡ head word }
-    {
+impl From<u16> for Head {
+    ghost from_gives = { λ word h. h ≡ head word };
+
+    fn from(word: u16) -> Head {
         Head {
             code: high_byte(word),
             source: low_digit(word >> 4),
@@ -109,22 +107,22 @@ impl Head {
 }
 
 // The word after the head of a command of two pairs: its high byte is fixed, and its modes are those of the second pair.
-#[derive(Clone, Copy)]
+#[derive(Clone, Copy, PartialEq, Eq, Debug)]
 pub struct Control {
     pub fixed: u8,
     pub source: u8,
     pub destination: u8,
 }
 
-impl Control {
-    pub fn new(word: u16) -> Control
-        ensures { result ≡ control word }
-    {
+impl From<u16> for Control {
+    ghost from_gives = { λ word c. c ≡ control word };
+
+    fn from(word: u16) -> Control {
         let Head {
             code,
             source,
             destination,
-        } = Head::new(word);
+        } = Head::from(word);
         Control {
             fixed: code,
             source,
@@ -134,7 +132,7 @@ impl Control {
 }
 
 // What a command does with an operand, which decides the modes that it may have.
-#[derive(Clone, Copy)]
+#[derive(Clone, Copy, PartialEq, Eq, Debug)]
 pub enum Role {
     Unused,
     Offset,
@@ -165,19 +163,23 @@ impl Role {
     }
 }
 
-#[derive(Clone, Copy)]
+#[derive(Clone, Copy, PartialEq, Eq, Debug)]
 pub struct Pair {
     pub source: Role,
     pub destination: Role,
 }
 
-// How the words of a command are laid out.
-#[derive(Clone, Copy)]
+const UNUSED: Pair = Pair {
+    source: Role::Unused,
+    destination: Role::Unused,
+};
+
+// How the words of a command are laid out: whether a jump address follows the head, and the pairs of operands after it.
+#[derive(Clone, Copy, PartialEq, Eq, Debug)]
 pub struct Layout {
-    pub pairs: u8,
     pub jump: bool,
-    pub first: Pair,
-    pub second: Pair,
+    pub first: Option<Pair>,
+    pub second: Option<Pair>,
 }
 
 impl Layout {
@@ -185,68 +187,56 @@ impl Layout {
     pub fn before_data(self) -> u16
         ensures { result ≡ before_data self }
     {
-        if self.jump { 2 } else { 1 }
+        1 + u16::from(self.jump)
     }
 
     pub fn length(self) -> u16
         ensures { result ≡ length_of self }
     {
-        if self.pairs == 0 {
-            self.before_data()
-        } else {
-            self.before_data() + 1
-        }
+        self.before_data() + u16::from(self.first.is_some())
     }
 }
 
-const NO_PAIR: Pair = Pair {
-    source: Role::Unused,
-    destination: Role::Unused,
-};
-
-const READ_BIT: Pair = Pair {
-    source: Role::Offset,
-    destination: Role::ReadBase,
-};
-
-const WRITTEN_BIT: Pair = Pair {
-    source: Role::Offset,
-    destination: Role::WrittenBase,
-};
-
+// No operand.
 const BARE: Layout = Layout {
-    pairs: 0,
     jump: false,
-    first: NO_PAIR,
-    second: NO_PAIR,
+    first: None,
+    second: None,
 };
 
 const JUMP: Layout = Layout {
-    pairs: 0,
     jump: true,
-    first: NO_PAIR,
-    second: NO_PAIR,
+    first: None,
+    second: None,
 };
 
+// One bit, on a base that is only read or on one that is written.
+const READ_BIT: Option<Pair> = Some(Pair {
+    source: Role::Offset,
+    destination: Role::ReadBase,
+});
+
+const WRITTEN_BIT: Option<Pair> = Some(Pair {
+    source: Role::Offset,
+    destination: Role::WrittenBase,
+});
+
 const BIT_JUMP: Layout = Layout {
-    pairs: 1,
     jump: true,
     first: READ_BIT,
-    second: NO_PAIR,
+    second: None,
 };
 
 const BIT_READ: Layout = Layout {
-    pairs: 1,
     jump: false,
     first: READ_BIT,
-    second: NO_PAIR,
+    second: None,
 };
 
 const BIT_WRITE: Layout = Layout {
-    pairs: 1,
     jump: false,
     first: WRITTEN_BIT,
-    second: NO_PAIR,
+    second: None,
 };
 
 // The layout by code, for the codes from 10 to 17 and from 50 to 57.
@@ -267,7 +257,7 @@ pub fn layout_of(code: u8) -> Layout
 }
 
 // The commands that are built, by what they do.
-#[derive(Clone, Copy)]
+#[derive(Clone, Copy, PartialEq, Eq, Debug)]
 pub enum Command {
     // TBR0, TBR1: jump if the bit is `value`.
     BranchOn { value: bool },
@@ -287,7 +277,7 @@ pub enum Command {
 pub fn decode(head: Head, site: Site) -> Result<Command, Refusal>
     ensures { result ≡ decoded head site }
 {
-    let pair = layout_of(head.code).first;
+    let pair = layout_of(head.code).first.unwrap_or(UNUSED);
     let source = pair.source.admits(head.source);
     let destination = pair.destination.admits(head.destination);
     match head.code {
@@ -311,52 +301,45 @@ pub fn decode(head: Head, site: Site) -> Result<Command, Refusal>
     }
 }
 
-// A byte as a word, by its sign.
-fn widen(byte: u8) -> u16
-    ensures { result ≡ widened byte }
-{
-    if byte < 128 {
-        byte as u16
-    } else {
-        byte as u16 + 0xFF00
-    }
+// A source as the words of a command give it.
+#[derive(Clone, Copy, PartialEq, Eq, Debug)]
+pub enum Operand {
+    Immediate(u16),
+    Register(RegisterNumber),
 }
 
-// An operand as the words of a command give it.
-#[derive(Clone, Copy)]
-pub enum Operand {
-    Absent,
-    Immediate(u16),
-    Register(u8),
+// The source of a pair whose destination has no word or byte of its own.
+pub fn source_operand(mode: u8, word: u16, site: Site, operand: u8) -> Result<Operand, Refusal>
+    ensures { result ≡ source mode word site operand }
+{
+    let high = high_byte(word);
+    let low = low_byte(word);
+    let found = match mode {
+        0 => Some(Operand::Immediate(word)),
+        3 if high == 0 => RegisterNumber::new(u16::from(low)).map(Operand::Register),
+        0xC if low == 0 => Some(Operand::Immediate(widen(high))),
+        0xD if low == 0 => RegisterNumber::new(u16::from(high)).map(Operand::Register),
+        _ => None,
+    };
+    found.ok_or(site.refusal(Reason::WrongMode, operand))
+}
+
+// The lines that a bit is counted on.
+#[derive(Clone, Copy, PartialEq, Eq, Debug)]
+pub enum Base {
     Inputs,
     Outputs,
     Flags,
 }
 
-// The source of a pair whose destination has no word or byte of its own.
-pub fn source_operand(mode: u8, word: u16, site: Site, operand: u8) -> Result<Operand, Refusal>
-    ensures value { result ≡ source mode word site operand }
-    ensures known { IfOk result Known }
-{
-    let high = high_byte(word);
-    let low = low_byte(word);
-    match mode {
-        0 => Ok(Operand::Immediate(word)),
-        3 if high == 0 && low < 128 => Ok(Operand::Register(low)),
-        0xC if low == 0 => Ok(Operand::Immediate(widen(high))),
-        0xD if high < 128 && low == 0 => Ok(Operand::Register(high)),
-        _ => Err(site.refusal(Reason::WrongMode, operand)),
-    }
-}
-
-// The lines that a bit is counted on.
-pub fn base_operand(mode: u8) -> Operand
+// The base that a mode stands for, if it stands for one.
+pub fn base_operand(mode: u8) -> Option<Base>
     ensures { result ≡ base mode }
 {
     match mode {
-        0xC => Operand::Inputs,
-        0xD => Operand::Outputs,
-        0xE => Operand::Flags,
-        _ => Operand::Absent,
+        0xC => Some(Base::Inputs),
+        0xD => Some(Base::Outputs),
+        0xE => Some(Base::Flags),
+        _ => None,
     }
 }
