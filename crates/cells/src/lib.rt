@@ -6,38 +6,45 @@ ghost use Rattle.cells.specs.Cells.{kind_number, kind_of, task_of, number_of, sa
 ghost use Rattle.cells.specs.Trails.{Fresh, Grows};
 
 use law::Entry;
+use std::fmt;
 
-#[derive(Clone, Copy)]
+#[derive(Clone, Copy, PartialEq, Eq, Debug)]
 pub enum Kind {
-    Ram,
-    Register,
-    Place,
-    State,
-    Delay,
-    Flag,
-    Input,
-    Output,
+    Ram = 0,
+    Register = 1,
+    Place = 2,
+    State = 3,
+    Delay = 4,
+    Flag = 5,
+    Input = 6,
+    Output = 7,
 }
 
 impl Kind {
     pub fn number(self) -> u16
         ensures { result ≡ kind_number self }
     {
-        match self {
-            Kind::Ram => 0,
-            Kind::Register => 1,
-            Kind::Place => 2,
-            Kind::State => 3,
-            Kind::Delay => 4,
-            Kind::Flag => 5,
-            Kind::Input => 6,
-            Kind::Output => 7,
-        }
+        self as u16
+    }
+}
+
+impl fmt::Display for Kind {
+    fn fmt<W: fmt::Write>(&self, f: &mut fmt::Formatter<W>) -> fmt::Result {
+        f.write_str(match self {
+            Kind::Ram => "RAM",
+            Kind::Register => "register",
+            Kind::Place => "place",
+            Kind::State => "state",
+            Kind::Delay => "delay",
+            Kind::Flag => "flag",
+            Kind::Input => "input",
+            Kind::Output => "output",
+        })
     }
 }
 
 // One cell. A line is a byte, since there are 256 of each kind.
-#[derive(Clone, Copy)]
+#[derive(Clone, Copy, PartialEq, Eq, Debug)]
 pub enum Cell {
     Ram { address: u16 },
     Register { task: u8, number: u8 },
@@ -77,8 +84,7 @@ impl Cell {
     pub fn same(self, other: Cell) -> bool
         ensures { result ≡ same self other }
     {
-        self.kind().number() == other.kind().number()
-            && (self.task() == other.task() && self.number() == other.number())
+        self == other
     }
 
     pub fn kind(self) -> Kind
@@ -104,7 +110,7 @@ impl Cell {
             Cell::Register { task, .. }
             | Cell::Place { task }
             | Cell::State { task }
-            | Cell::Delay { task } => task as u16,
+            | Cell::Delay { task } => u16::from(task),
             _ => 0,
         }
     }
@@ -115,14 +121,32 @@ impl Cell {
     {
         match self {
             Cell::Ram { address } => address,
-            Cell::Register { number, .. } => number as u16,
-            Cell::Flag { line } | Cell::Input { line } | Cell::Output { line } => line as u16,
+            Cell::Register { number, .. } => u16::from(number),
+            Cell::Flag { line } | Cell::Input { line } | Cell::Output { line } => u16::from(line),
             _ => 0,
         }
     }
 }
 
-// The list that a caller lends for a trail, filled from its start to a count.
+// A cell as RAM 0010, flag 7, or task 0 R77.
+impl fmt::Display for Cell {
+    fn fmt<W: fmt::Write>(&self, f: &mut fmt::Formatter<W>) -> fmt::Result {
+        let kind = self.kind();
+        match self {
+            Cell::Ram { address } => write!(f, "{kind} {address:04X}"),
+            Cell::Register { task, number } => write!(f, "task {task} R{number:02X}"),
+            Cell::Place { task } | Cell::State { task } | Cell::Delay { task } => {
+                write!(f, "task {task} {kind}")
+            }
+            Cell::Flag { line } | Cell::Input { line } | Cell::Output { line } => {
+                write!(f, "{kind} {line}")
+            }
+        }
+    }
+}
+
+// The list that a caller lends for a trail, filled from its start to a count. The memory is the caller's, so that no event
+// allocates: a vector would need a heap.
 #[derive(Drop)]
 pub struct Trail<'a> {
     entries: &'a mut [Entry<Cell>],

@@ -7,6 +7,8 @@ ghost use Rattle.words.specs.Codes.{admits, at_fault, before_data, length_of, la
 ghost use Rattle.words.specs.Words.{refusal_at, plain, head, control, source, base};
 
 use arith::{high_byte, low_byte, widen};
+use std::error::Error;
+use std::fmt;
 
 mod bounded;
 
@@ -35,6 +37,23 @@ impl Reason {
     }
 }
 
+impl fmt::Display for Reason {
+    fn fmt<W: fmt::Write>(&self, f: &mut fmt::Formatter<W>) -> fmt::Result {
+        f.write_str(match self {
+            Reason::RamLength => "RAM has no allowed length",
+            Reason::NoSuchThing => "no such task, line, address or cell",
+            Reason::ShortTrail => "list too short for the trail",
+            Reason::NotIdle => "the task is not idle",
+            Reason::PastRam => "command word past RAM",
+            Reason::UnknownCode => "unknown code",
+            Reason::WrongMode => "mode not allowed, or a fixed bit wrong",
+            Reason::OperandPast => "operand past RAM or past R7F",
+            Reason::ValueRange => "value out of range",
+            Reason::StackDepth => "stack empty or full",
+        })
+    }
+}
+
 // A refusal is one record, which every call hands up whole. By the rules of the machine its numbers are 0 where it names
 // no task, place or operand.
 #[derive(Clone, Copy, PartialEq, Eq, Debug)]
@@ -44,6 +63,22 @@ pub struct Refusal {
     pub place: u16,
     pub operand: u8,
 }
+
+impl fmt::Display for Refusal {
+    fn fmt<W: fmt::Write>(&self, f: &mut fmt::Formatter<W>) -> fmt::Result {
+        let number = self.reason.number();
+        let reason = self.reason;
+        let task = self.task;
+        let place = self.place;
+        let operand = self.operand;
+        write!(
+            f,
+            "refused by {number} ({reason}), task {task}, place {place:04X}, operand {operand}"
+        )
+    }
+}
+
+impl Error for Refusal {}
 
 // A refusal that names no task, place or operand.
 impl From<Reason> for Refusal {
