@@ -1,19 +1,13 @@
-use Rattle.std.proofs.Common.{◌≡◌, Bool, true, false, not, sym, refl, ◌∙◌, arith, ext_get_or, below_more}
-use mathlib.Core.Bool.{beq}
+use Rattle.std.proofs.Common.{◌≡◌, ℕ, false, get_or, refl, rules, tests}
+use Rattle.std.proofs.lemmas.Iterator.{cases_from_all, YieldsList-from_range}
+use Rattle.store.proofs.Sameness.{lines_decide}
 use Rattle.store.proofs.same_lines.Goals as goal
-
-alike : (a b : Bool) → not (beq a b) ≡ false → a ≡ b
-alike true true e = refl
-alike true false e = e
-alike false true e = sym e
-alike false false e = refl
-
-pub loop-n-preserved : goal.loop-n-preserved
-loop-n-preserved g c = below_more _ _ c.loop-n.invariant
-    (sym c.read.ensures ∙ alike c.read.result c.read-in-loop-n.result c.if-read.false ∙ c.read-in-loop-n.ensures)
 
 pub returns : goal.returns
 returns g c =
-    let la = g.met.C.Card.size c.args.a.now in
-    let lb = g.met.D.Card.size c.args.b.now in
-    (λ _. ext_get_or false _ _ (la ∙ sym lb) (λ i h. c.loop-n.invariant i (omega (arith, h, la, c.loop-n-test.false))), λ _. refl)
+    let xs = g.C.Card.lines c.args.a.now in
+    let ys = g.D.Card.lines c.args.b.now in
+    lines_decide _ xs ys (g.met.C.Card.size c.args.a.now) (g.met.D.Card.size c.args.b.now)
+    (cases_from_all _ _ _ (λ (k : ℕ). get_or xs k false ≡ get_or ys k false) (λ (k : ℕ). get_or xs k false ≡ get_or ys k false → ⊥) c.all.ensures.ran (YieldsList-from_range 0 256 256 refl refl)
+    (λ x q k. search (rules, tests))
+    (λ x q k. search (rules, tests)))
