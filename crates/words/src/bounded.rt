@@ -35,6 +35,14 @@ impl<const N: u8> Below<N> {
         }
     }
 
+    // A number that is known to be below N.
+    pub fn of(number: u8) -> Below<N>
+        requires { number < N }
+        ensures { result ≡ number }
+    {
+        Below { number }
+    }
+
     pub fn get(self) -> u8
         ensures value { result ≡ self.entry }
         ensures below { result < N }

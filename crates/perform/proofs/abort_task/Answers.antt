@@ -2,8 +2,8 @@ use borrow.Author.Tests.{eq-eqb, ne_eqb}
 use Rattle.cells.proofs.Following.{go_look, go_change, go_ret}
 use Rattle.perform.proofs.abort_task.Goals as goal
 
-pub returns-in-Idle : goal.returns-in-Idle
-returns-in-Idle c = λ is os ws. go_look (c.in-Idle.ensures is os ws) go_ret
+pub returns-in_default : goal.returns-in_default
+returns-in_default c = λ is os ws. go_look (c.in_default.ensures is os ws) go_ret
 
 pub returns-then-target-eq0 : goal.returns-then-target-eq0
 returns-then-target-eq0 c = λ is os ws.

@@ -11,4 +11,4 @@ pub returns : goal.returns
 returns g c = λ ws.
     go_look (c.read_line-bit.ensures ws) (
     rw (sym c.is_at.ensures ∙ c.if-is_at.false) (
-    c.move_on.ensures (g.I.Card.lines c.args.inputs.now) (g.O.Card.lines c.args.outputs.now) ws))
+    c.move_on.ensures (g.I.Card.lines c.args.store.now.inputs) (g.O.Card.lines c.args.store.now.outputs) ws))

@@ -5,7 +5,7 @@ use Rattle.perform.proofs.perform_action.Goals as goal
 pub returns-in-Jump : goal.returns-in-Jump
 returns-in-Jump g c = λ ws.
     rw c.in-Jump.is (
-    c.move_on.ensures (g.I.Card.lines c.args.inputs.now) (g.O.Card.lines c.args.outputs.now) ws)
+    c.move_on.ensures (g.I.Card.lines c.args.store.now.inputs) (g.O.Card.lines c.args.store.now.outputs) ws)
 
 pub returns-in-BranchOn : goal.returns-in-BranchOn
 returns-in-BranchOn g c = λ ws. rw c.in-BranchOn.is (c.branch_on.ensures ws)
@@ -21,7 +21,7 @@ returns-in-HaltWhile g c = λ ws. rw c.in-HaltWhile.is (c.halt_while.ensures ws)
 
 pub returns-in-EndTask : goal.returns-in-EndTask
 returns-in-EndTask g c = λ ws.
-    let is = g.I.Card.lines c.args.inputs.now in
-    let os = g.O.Card.lines c.args.outputs.now in
+    let is = g.I.Card.lines c.args.store.now.inputs in
+    let os = g.O.Card.lines c.args.store.now.outputs in
     rw c.in-EndTask.is (
     go_bind (c.end_task.ensures is os ws) (λ _. move_on c.args.t c.in-EndTask.next) (c.move_on-in-EndTask.ensures is os ws))
