@@ -1,9 +1,8 @@
 -- The events, as trees. `size` is the length of RAM and `room` that of the list for the trail.
 use Rattle.std.specs.Prelude.{ℕ, Bool, true, cond, ◌&&◌, ◌==◌, nat_le, nat_lt}
 use Rattle.law.specs.Trees.{ret, refuse, look, change, bind}
-use Rattle.words.specs.declared.Reason.{Reason}
 use Rattle.words.specs.declared.Reason.TheVariants.{RamLength, NoSuchThing, ShortTrail, NotIdle}
-use Rattle.words.specs.declared.Refusal.{Refusal}
+use Rattle.words.specs.Words.{plain}
 use Rattle.words.specs.declared.Site.{Site}
 use Rattle.cells.specs.declared.Cell.TheVariants.{Ram, Place, State, Delay, Input}
 use Rattle.cells.specs.Runs.{Steps}
@@ -13,10 +12,6 @@ use Rattle.plan.specs.Actions.{plan}
 use Rattle.perform.specs.Perform.{kill as kill_task, abort as abort_task, ready_at, ticks, perform}
 use Rattle.perform.specs.declared.Answer.{Answer}
 use Rattle.perform.specs.declared.Answer.TheVariants.{Done, Idle, Waiting}
-
--- the refusals that name no place are all zeros but for the reason
-abbrev pub plain : Reason → Refusal
-plain why = record { reason = why; task = 0; place = 0; operand = 0 }
 
 abbrev pub ram_fits : ℕ → Bool
 ram_fits size = nat_le 256 size && nat_le size 65536

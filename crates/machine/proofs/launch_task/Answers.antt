@@ -7,4 +7,4 @@ returns-in-Idle c = λ is os ws. go_look (c.in-Idle.ensures is os ws) (c.make_re
 
 pub returns-in-Ready : goal.returns-in-Ready
 returns-in-Ready c = λ is os ws.
-    (find_look (c.in-Ready.ensures is os ws) (find_out (ap Err c.plain_refusal.ensures) find_refuse), refl)
+    (find_look (c.in-Ready.ensures is os ws) (find_out (ap Err c.from.ensures) find_refuse), refl)
