@@ -1,5 +1,7 @@
 -- From a call to the report of its event.
-use Rattle.std.proofs.Common.{◌≡◌, ℕ, ◌<◌, ◌≤◌, Bool, true, false, ltb, List, [], length, Ok, Err, Result, sym, refl, ap, ◌∙◌, subst, ap₂, le-ltb, lt-ltb}
+use Rattle.std.proofs.Common.{◌≡◌, ℕ, ◌<◌, ◌≤◌, Bool, true, false, ltb, min, List, [], ◌++◌, length, take, drop, Ok, Err, Result, sym, refl, ap, ◌∙◌, subst, ap₂, ⊎_elim, arith, le-ltb, lt-ltb, append-nil}
+use Rattle.std.proofs.lemmas.Bool.{cases_lt}
+use Rattle.std.proofs.lemmas.List.{length-take-le, take-append-drop, take_all, drop_all}
 use Rattle.law.specs.declared.Entry.{Entry}
 use Rattle.law.specs.Trees.{Contents, run}
 use Rattle.words.specs.declared.Refusal.{Refusal}
@@ -15,20 +17,13 @@ use Rattle.machine.specs.declared.Answered.{Answered}
 use Rattle.machine.specs.declared.Refused.{Refused}
 use Rattle.events.specs.declared.Ask.{Ask}
 use Rattle.events.specs.declared.Ask.TheVariants.{Place, Feed, Tick, Start, Kill, Abort, Turn}
+use Rattle.events.specs.declared.Event.{Event}
 use Rattle.events.specs.declared.Report.{Report}
-use Rattle.events.specs.Events.{asked_tree, blanks, report_of, Does}
+use Rattle.events.specs.Events.{asked_tree, tree, blanks, report_of, Does}
 
 of_counted : (e : Result Answer Refusal) (n : ℕ) (es : List (Entry Cell)) → report_of (counted e n) es ≡ record { end = e; count = n; trail = es }
 of_counted (Ok a) n es = refl
 of_counted (Err e) n es = refl
-
--- a call on a list of blanks
-pub does_all : {m : Steps Answer} {s s' : Contents Cell} {r : Result Answered Refused} {new : List (Entry Cell)} {q : Report}
-    → Did m s blanks r s' new → q ≡ report_of r new → Does m s q s'
-does_all {m = m} {s = s} {r = r} {new = new} d e = record {
-  tells = e ∙ ap₂ report_of d.result d.list ∙ of_counted (run same m s).end (length (run same m s).trail) (over (run same m s).trail blanks);
-  cells = d.cells;
-}
 
 -- every event is guarded by the same first tests, which of its list ask only whether it is too short
 guards : (size : ℕ) (ask : Ask) → (there : Bool) × (m : Steps Answer) × ((room : ℕ) → asked_tree size room ask ≡ guarded (ram_fits size) there (ltb room 200) m)
@@ -40,7 +35,7 @@ guards size (Kill t) = (_, _, λ room. refl)
 guards size (Abort t) = (_, _, λ room. refl)
 guards size (Turn t) = (_, _, λ room. refl)
 
-pub same_room : (size room room' : ℕ) (ask : Ask) → ltb room 200 ≡ ltb room' 200 → asked_tree size room ask ≡ asked_tree size room' ask
+same_room : (size room room' : ℕ) (ask : Ask) → ltb room 200 ≡ ltb room' 200 → asked_tree size room ask ≡ asked_tree size room' ask
 same_room size room room' ask e =
     let g = guards size ask in
     g.2 room ∙ ap (λ (b : Bool). guarded (ram_fits size) g.0 b g.1) e ∙ sym (g.2 room')
@@ -51,24 +46,41 @@ early false b m s = refl
 early true false m s = refl
 early true true m s = refl
 
-lists_none : (size : ℕ) (ask : Ask) (s : Contents Cell) → (run same (asked_tree size 0 ask) s).trail ≡ []
-lists_none size ask s =
+lists_none : (size room : ℕ) (ask : Ask) (s : Contents Cell) → room < 200 → (run same (asked_tree size room ask) s).trail ≡ []
+lists_none size room ask s h =
     let g = guards size ask in
-    ap (λ (m : Steps Answer). (run same m s).trail) (g.2 0) ∙ early (ram_fits size) g.0 g.1 s
+    ap (λ (m : Steps Answer). (run same m s).trail) (g.2 room ∙ ap (λ (b : Bool). guarded (ram_fits size) g.0 b g.1) (lt-ltb room 200 h))
+    ∙ early (ram_fits size) g.0 g.1 s
 
-pub does_none : (size room : ℕ) (ask : Ask) {s s' : Contents Cell} {r : Result Answered Refused} {old new : List (Entry Cell)} {q : Report}
-    → Did (asked_tree size 0 ask) s old r s' new → room < 200 → q ≡ report_of r blanks → Does (asked_tree size room ask) s q s'
-does_none size room ask {s = s} {s' = s'} {r = r} {q = q} d h e =
-    let m = asked_tree size 0 ask in
-    let none = lists_none size ask s in
-    let does : Does m s q s' = record {
-      tells = e ∙ ap (λ (x : Result Answered Refused). report_of x blanks) d.result ∙ of_counted (run same m s).end (length (run same m s).trail) blanks
-          ∙ ap (λ (es : List (Entry Cell)). record { end = (run same m s).end; count = length (run same m s).trail; trail = over es blanks }) (sym none);
+-- a list that was cut to 200 entries is too short if it was before
+short : (n room : ℕ) → n ≡ min room 200 → ltb n 200 ≡ ltb room 200
+short n room h = ⊎_elim
+    (λ (l : room < 200). lt-ltb _ _ (omega arith) ∙ sym (lt-ltb _ _ l))
+    (λ (l : 200 ≤ room). le-ltb _ _ (omega arith) ∙ sym (le-ltb _ _ l))
+    (cases_lt room 200)
+
+-- what is written over the first n of the blanks is written over all, if n are all or nothing is written
+over_first : (t : List (Entry Cell)) (n : ℕ) → (n < 200 → t ≡ []) → over t (take n blanks) ++ drop n blanks ≡ over t blanks
+unfolding blanks
+over_first t n h = ⊎_elim
+    (λ (l : n < 200). rw (h l) (take-append-drop n blanks))
+    (λ (l : 200 ≤ n). rw (take_all n blanks l, drop_all n blanks l) (append-nil (over t blanks)))
+    (cases_lt n 200)
+
+-- a call on the first n of the blanks
+pub does : (size n : ℕ) (e : Event) {s s' : Contents Cell} {r r' : Result Answered Refused} {new : List (Entry Cell)}
+    → n ≡ min e.room 200
+    → Did (asked_tree size (length (take n blanks)) e.ask) s (take n blanks) r s' new
+    → r ≡ r'
+    → Does (tree size e) s (report_of r' (new ++ drop n blanks)) s'
+unfolding blanks
+does size n e {s = s} {s' = s'} {r' = r'} {new = new} h did is =
+    let m = asked_tree size n e.ask in
+    let t = (run same m s).trail in
+    let d = rw (length-take-le n blanks (omega arith)) at did in
+    let list : new ++ drop n blanks ≡ over t blanks = ap (λ (es : List (Entry Cell)). es ++ drop n blanks) d.list ∙ over_first t n (lists_none size n e.ask s) in
+    let does : Does m s (report_of r' (new ++ drop n blanks)) s' = record {
+      tells = ap₂ report_of (sym is ∙ d.result) list ∙ of_counted (run same m s).end (length t) (over t blanks);
       cells = d.cells;
     } in
-    subst (λ (z : Steps Answer). Does z s q s') (same_room size 0 room ask (sym (lt-ltb room 200 h))) does
-
-pub does_wide : (size room : ℕ) (ask : Ask) {s s' : Contents Cell} {q : Report}
-    → Does (asked_tree size 200 ask) s q s' → 200 ≤ room → Does (asked_tree size room ask) s q s'
-does_wide size room ask {s = s} {s' = s'} {q = q} d h =
-    subst (λ (z : Steps Answer). Does z s q s') (same_room size 200 room ask (sym (le-ltb room 200 h))) d
+    subst (λ (z : Steps Answer). Does z s (report_of r' (new ++ drop n blanks)) s') (same_room size n e.room e.ask (short n e.room h)) does

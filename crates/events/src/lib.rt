@@ -11,10 +11,12 @@ use cells::Cell;
 use law::Entry;
 use machine::{Answered, Machine, Refused};
 use perform::Answer;
+use std::error::Error;
+use std::fmt;
 use words::Refusal;
 
 // What is asked of a machine, with its numbers.
-#[derive(Clone, Copy)]
+#[derive(Clone, Copy, PartialEq, Eq, Debug)]
 pub enum Ask {
     Place { address: u16, word: u16 },
     Feed { line: u16, on: bool },
@@ -26,7 +28,7 @@ pub enum Ask {
 }
 
 // An event: what is asked, and the length of the list for its trail.
-#[derive(Clone, Copy)]
+#[derive(Clone, Copy, PartialEq, Eq, Debug)]
 pub struct Event {
     pub ask: Ask,
     pub room: usize,
@@ -45,11 +47,7 @@ impl Report {
     pub fn entries(&self) -> &[Entry<Cell>]
         ensures { result.now ≡ (told self.now).trail }
     {
-        if self.count < 200 {
-            &self.trail[..self.count]
-        } else {
-            &self.trail
-        }
+        &self.trail[..self.count.min(200)]
     }
 }
 
@@ -73,40 +71,29 @@ pub fn call<I: Card, O: Card>(
     }
 }
 
-fn make_report(said: Result<Answered, Refused>, trail: [Entry<Cell>; 200]) -> Report
-    ensures { result ≡ report_of said trail }
-{
-    match said {
-        Ok(told) => Report {
-            end: Ok(told.answer),
-            count: told.count,
-            trail,
-        },
-        Err(no) => Report {
-            end: Err(no.refusal),
-            count: no.count,
-            trail,
-        },
-    }
-}
-
 // Runs one event. A list under 200 entries is refused, so none is needed there; no trail is longer than 200.
 pub fn apply<I: Card, O: Card>(machine: &mut Machine<I, O>, ram: &mut [u16], event: Event) -> Report
     ensures { Does (tree (length ram.old) event) (cells_of I.Card.lines O.Card.lines machine.old ram.old) result (cells_of I.Card.lines O.Card.lines machine.new ram.new) }
 {
     let mut trail = [Entry::Read(Cell::Ram { address: 0 }); 200];
-    if event.room < 200 {
-        let mut none: [Entry<Cell>; 0] = [];
-        let said = call(machine, ram, event.ask, &mut none);
-        return make_report(said, trail);
-    }
-    let said = call(machine, ram, event.ask, &mut trail);
-    make_report(said, trail)
+    let (end, count) = match call(machine, ram, event.ask, &mut trail[..event.room.min(200)]) {
+        Ok(told) => (Ok(told.answer), told.count),
+        Err(no) => (Err(no.refusal), no.count),
+    };
+    Report { end, count, trail }
 }
 
 // There are fewer reports than events.
-#[derive(Clone, Copy)]
+#[derive(Clone, Copy, PartialEq, Eq, Debug)]
 pub struct NoRoom;
+
+impl fmt::Display for NoRoom {
+    fn fmt<W: fmt::Write>(&self, f: &mut fmt::Formatter<W>) -> fmt::Result {
+        f.write_str("fewer reports than events")
+    }
+}
+
+impl Error for NoRoom {}
 
 // Runs the events one after the other, and writes what each comes to over the start of `reports`.
 pub fn run<I: Card, O: Card>(
@@ -126,8 +113,8 @@ pub fn run<I: Card, O: Card>(
     if reports.len() < events.len() {
         return Err(NoRoom);
     }
-    for i in 0..events.len() {
-        reports[i] = apply(machine, ram, events[i]);
+    for (i, event) in events.iter().enumerate() {
+        reports[i] = apply(machine, ram, *event);
     }
     Ok(())
 }
