@@ -1,9 +1,11 @@
 -- Runs of events a step at a time, and the law of order for a run.
-use Rattle.std.proofs.Common.{◌≡◌, ℕ, zero, suc, ◌+◌, ◌<◌, ◌≤◌, List, [], ◌∷◌, ◌++◌, map, length, get_or, take, drop, set, sym, refl, ap, ◌∙◌, subst, ap₂, le_of_suc-le-suc, not-suc-le-zero, add-one, arith, take-suc, take-suc-set, drop-set-lt}
+use Rattle.std.proofs.Common.{◌≡◌, ℕ, zero, suc, ◌+◌, ◌<◌, List, [], ◌∷◌, ◌++◌, map, length, get_or, take, drop, set, sym, refl, ap, ◌∙◌, subst, ap₂, arith, drop-set-lt}
+use Rattle.std.proofs.Math.Option.{Option, some, map as map_option}
+use Rattle.std.proofs.Math.Seq.{take-append_seam}
+use Rattle.std.proofs.lemmas.Grind.{drop_more_same}
+use Rattle.std.proofs.lemmas.List.{map-append, length-map, take-map, take_more, take_more_set}
 use mathlib.Core.Path.{fun_ext}
-use mathlib.Core.List.{map-append}
-use mathlib.Core.Option.{Option, none, some}
-use lib.ListN.{length-map}
+use mathlib.Core.List.{map-map}
 use Rattle.law.specs.Trees.{Contents, run}
 use Rattle.law.specs.Order.{report, reports, final, at, Order, Taken, KeepsClashes}
 use Rattle.law.specs.declared.Entry.{Entry}
@@ -19,21 +21,10 @@ use Rattle.events.specs.declared.Report.{Report}
 use Rattle.events.specs.Events.{tree, told, filed, blanks, Does}
 use Rattle.events.specs.Rows.{Tellings, trees, Runs, Frames, Depends, Each, AnyOrder, Prefixes}
 
-pub take_end : {X : Type 0} (xs : List X) (n : ℕ) → length xs ≤ n → take n xs ≡ xs
-take_end [] zero h = refl
-take_end [] (suc n) h = refl
-take_end (x ∷ xs) zero h = absurd (not-suc-le-zero h)
-take_end (x ∷ xs) (suc n) h = ap (λ (l : List _). x ∷ l) (take_end xs n (le_of_suc-le-suc h))
-
--- the entries written over the start of a list are its first ones
-take_own : {X : Type 0} (es rest : List X) → take (length es) (es ++ rest) ≡ es
-take_own [] rest = refl
-take_own (e ∷ es) rest = ap (λ (l : List _). e ∷ l) (take_own es rest)
-
 told_filed : (rs : Tellings) → map told (map filed rs) ≡ rs
 told_filed [] = refl
 told_filed (r ∷ rs) =
-    ap₂ (λ (t : List (Entry Cell)) (l : Tellings). record { end = r.end; trail = t } ∷ l) (take_own r.trail (drop (length r.trail) blanks)) (told_filed rs)
+    ap₂ (λ (t : List (Entry Cell)) (l : Tellings). record { end = r.end; trail = t } ∷ l) (take-append_seam r.trail (drop (length r.trail) blanks)) (told_filed rs)
 
 module _ (e : Steps Answer) where
   reports_snoc : (es : List (Steps Answer)) (s : Contents Cell)
@@ -67,23 +58,15 @@ runs_more {size = size} {events = events} {s = s} {s' = s'} {s'' = s''} {rs = rs
     }
 
 -- one event more of a list, whose report is written at its place
-pub runs_next : (size now : ℕ) (events : List Event) (s s' s'' : Contents Cell) (rs : List Report) (i : ℕ) (d : Event) (r : Report)
+pub runs_next : {size now : ℕ} (events : List Event) {s s' s'' : Contents Cell} (rs : List Report) (i : ℕ) (d : Event) {r : Report}
     → i < length events → i < length rs → now ≡ size
     → Runs size (take i events) s (take i rs) s' → Does (tree now (get_or events i d)) s' r s'' → Runs size (take (i + 1) events) s (take (i + 1) (set rs i r)) s''
-runs_next size now events s s' s'' rs i d r he hr n h k =
-    let did : Does (tree size (get_or events i d)) s' r s'' = subst (λ (z : ℕ). Does (tree z (get_or events i d)) s' r s'') n k in
-    rw (add-one i, take-suc events i d he, take-suc-set rs i r hr)
-    (runs_more (get_or events i d) h did)
+runs_next events {s' = s'} {s'' = s''} rs i d {r = r} he hr n h k =
+    rw (take_more events i d he, take_more_set rs i r hr)
+    (runs_more (get_or events i d) h (subst (λ (z : ℕ). Does (tree z (get_or events i d)) s' r s'') n k))
 
 pub rest_next : (rs old : List Report) (i : ℕ) (r : Report) → drop i rs ≡ drop i old → drop (i + 1) (set rs i r) ≡ drop (i + 1) old
-rest_next rs old i r h =
-    rw add-one (drop-set-lt (suc i) rs i r (omega arith) ∙ sym (drop_one rs i) ∙ ap (drop 1) h ∙ drop_one old i)
-  where
-    drop_one : (l : List Report) (i : ℕ) → drop 1 (drop i l) ≡ drop (suc i) l
-    drop_one [] zero = refl
-    drop_one [] (suc i) = refl
-    drop_one (x ∷ l) zero = refl
-    drop_one (x ∷ l) (suc i) = drop_one l i
+rest_next rs old i r h = drop-set-lt (i + 1) rs i r (omega arith) ∙ drop_more_same rs old i h
 
 -- the law of one event, along the run
 frames_each : (es : List (Steps Answer)) (s : Contents Cell) → Each Frames es s (reports same es s)
@@ -99,25 +82,15 @@ depends_each (e ∷ es) s = (
 
 -- what is taken in an order, after a function
 module _ {X Y : Type 0} (f : X → Y) where
-  abbrev through : Option X → Option Y
-  through none = none
-  through (some x) = some (f x)
-
-  at_map : (xs : List X) (n : ℕ) → through (at xs n) ≡ at (map f xs) n
+  at_map : (xs : List X) (n : ℕ) → map_option f (at xs n) ≡ at (map f xs) n
   at_map [] n = refl
   at_map (x ∷ xs) zero = refl
   at_map (x ∷ xs) (suc n) = at_map xs n
 
-  at_maps : (xs : List X) (p : List ℕ) → map through (map (at xs) p) ≡ map (at (map f xs)) p
-  at_maps xs [] = refl
-  at_maps xs (i ∷ p) = ap₂ ◌∷◌ (at_map xs i) (at_maps xs p)
-
-  somes : (ys : List X) → map some (map f ys) ≡ map through (map some ys)
-  somes [] = refl
-  somes (y ∷ ys) = ap (λ (l : List (Option Y)). some (f y) ∷ l) (somes ys)
-
   taken_map : (p : List ℕ) (xs ys : List X) → Taken p xs ys → Taken p (map f xs) (map f ys)
-  taken_map p xs ys h = somes ys ∙ ap (map through) h ∙ at_maps xs p
+  taken_map p xs ys h =
+      map-map some f ys ∙ sym (map-map (map_option f) some ys) ∙ ap (map (map_option f)) h
+      ∙ map-map (map_option f) (at xs) p ∙ ap (λ (g : ℕ → Option Y). map g p) (fun_ext (at_map xs))
 
 module _ {size : ℕ} {events : List Event} {s s' : Contents Cell} {rs : List Report} (h : Runs size events s rs s') where
   tells_told : map told rs ≡ reports same (trees size events) s
@@ -141,16 +114,11 @@ reports_take zero es s = refl
 reports_take (suc k) [] s = refl
 reports_take (suc k) (e ∷ es) s = ap (λ (l : Tellings). report (run same e s) ∷ l) (reports_take k es (run same e s).after)
 
-map_take : {X Y : Type 0} (f : X → Y) (k : ℕ) (xs : List X) → map f (take k xs) ≡ take k (map f xs)
-map_take f zero xs = refl
-map_take f (suc k) [] = refl
-map_take f (suc k) (x ∷ xs) = ap (λ (l : List _). f x ∷ l) (map_take f k xs)
-
 pub prefixes : {size : ℕ} {events : List Event} {s s' : Contents Cell} {rs : List Report} → Runs size events s rs s' → Prefixes size events s rs
 prefixes {size = size} {events = events} {s = s} h k =
     any_order (record {
       tells =
-          ap (take k) h.tells ∙ sym (map_take filed k (reports same (trees size events) s))
-          ∙ ap (map filed) (reports_take k (trees size events) s ∙ ap (λ (l : List (Steps Answer)). reports same l s) (sym (map_take (tree size) k events)));
+          ap (take k) h.tells ∙ take-map filed k (reports same (trees size events) s)
+          ∙ ap (map filed) (reports_take k (trees size events) s ∙ ap (λ (l : List (Steps Answer)). reports same l s) (take-map (tree size) k events));
       cells = λ x. refl;
     })

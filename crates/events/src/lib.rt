@@ -88,6 +88,10 @@ pub fn apply<I: Card, O: Card>(machine: &mut Machine<I, O>, ram: &mut [u16], eve
 pub struct NoRoom;
 
 impl fmt::Display for NoRoom {
+    ghost use Rattle.std.specs.Prelude.{Some, codes};
+
+    ghost output = { λ _. Some (codes "fewer reports than events") };
+
     fn fmt<W: fmt::Write>(&self, f: &mut fmt::Formatter<W>) -> fmt::Result {
         f.write_str("fewer reports than events")
     }
