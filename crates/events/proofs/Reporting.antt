@@ -18,7 +18,6 @@ use Rattle.machine.specs.declared.Refused.{Refused}
 use Rattle.events.specs.declared.Ask.{Ask}
 use Rattle.events.specs.declared.Ask.TheVariants.{Place, Feed, Tick, Start, Kill, Abort, Turn}
 use Rattle.events.specs.declared.Event.{Event}
-use Rattle.events.specs.declared.Report.{Report}
 use Rattle.events.specs.Events.{asked_tree, tree, blanks, report_of, Does}
 
 of_counted : (e : Result Answer Refusal) (n : ℕ) (es : List (Entry Cell)) → report_of (counted e n) es ≡ record { end = e; count = n; trail = es }

@@ -4,7 +4,7 @@
 ghost use Rattle.std.specs.Prelude.{◌≡◌, ℕ, ◌<◌, ◌≤◌, List, length, take, drop, MatchResult, OnOk};
 ghost use Rattle.machine.specs.Calls.{cells_of, Did};
 ghost use Rattle.events.specs.Rows.{room_told, Runs, FramesEach, DependsEach, AnyOrder, Prefixes};
-ghost use Rattle.events.specs.Events.{asked_tree, tree, told, report_of, Does};
+ghost use Rattle.events.specs.Events.{asked_tree, tree, told, Does};
 
 use cards::Card;
 use cells::Cell;
@@ -34,7 +34,7 @@ pub struct Event {
     pub room: usize,
 }
 
-// What an event came to: its answer or refusal, and its trail up to the count.
+// What an event came to: its answer or refusal, and its trail up to the count. No event allocates, so the trail is an array.
 #[derive(Clone, Copy)]
 pub struct Report {
     pub end: Result<Answer, Refusal>,
@@ -51,7 +51,8 @@ impl Report {
     }
 }
 
-// Makes the call that is asked for, on the list that it is given.
+// Makes the call that is asked for, on the list that it is given. What is asked is an enum and no closure: events are
+// values, which are kept, copied and put into other orders. RAM is lent to each call, so every clause has it by the machine.
 pub fn call<I: Card, O: Card>(
     machine: &mut Machine<I, O>,
     ram: &mut [u16],
@@ -71,7 +72,7 @@ pub fn call<I: Card, O: Card>(
     }
 }
 
-// Runs one event. A list under 200 entries is refused, so none is needed there; no trail is longer than 200.
+// Runs one event. No trail is longer than 200, so a longer list is not needed.
 pub fn apply<I: Card, O: Card>(machine: &mut Machine<I, O>, ram: &mut [u16], event: Event) -> Report
     ensures { Does (tree (length ram.old) event) (cells_of I.Card.lines O.Card.lines machine.old ram.old) result (cells_of I.Card.lines O.Card.lines machine.new ram.new) }
 {
@@ -117,6 +118,7 @@ pub fn run<I: Card, O: Card>(
     if reports.len() < events.len() {
         return Err(NoRoom);
     }
+    // Written by index: of what is written in a zip over `iter_mut`, nothing is known once it ends.
     for (i, event) in events.iter().enumerate() {
         reports[i] = apply(machine, ram, *event);
     }

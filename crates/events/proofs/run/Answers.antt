@@ -1,4 +1,4 @@
-use Rattle.std.proofs.Common.{◌≡◌, ◌<◌, length, arith, rules}
+use Rattle.std.proofs.Common.{◌≡◌, length, arith, rules}
 use Rattle.std.proofs.Math.Seq.{take-length}
 use Rattle.events.proofs.Lawful.{runs_next, rest_next, frames_hold, depends_hold, any_order, prefixes}
 use Rattle.events.proofs.run.Goals as goal
