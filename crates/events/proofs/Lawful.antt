@@ -3,7 +3,7 @@ use Rattle.std.proofs.Common.{◌≡◌, ℕ, zero, suc, ◌+◌, ◌<◌, List,
 use Rattle.std.proofs.Math.Option.{Option, some, map as map_option}
 use Rattle.std.proofs.Math.Seq.{take-append_seam}
 use Rattle.std.proofs.lemmas.Grind.{drop_more_same}
-use Rattle.std.proofs.lemmas.List.{map-append, length-map, take-map, take_more, take_more_set}
+use Rattle.std.proofs.lemmas.List.{map_push, length-map, take-map, take_more, take_more_set}
 use mathlib.Core.Path.{fun_ext}
 use mathlib.Core.List.{map-map}
 use Rattle.law.specs.Trees.{Contents, run}
@@ -41,20 +41,11 @@ runs_none size s = record { tells = refl; cells = λ x. refl }
 
 pub runs_more : {size : ℕ} {events : List Event} {s s' s'' : Contents Cell} {rs : List Report} {r : Report} (e : Event)
     → Runs size events s rs s' → Does (tree size e) s' r s'' → Runs size (events ++ (e ∷ [])) s (rs ++ (r ∷ [])) s''
-runs_more {size = size} {events = events} {s = s} {s' = s'} {s'' = s''} {rs = rs} {r = r} e h d =
-    let is : s' ≡ final same (trees size events) s = fun_ext h.cells in
+runs_more {size = size} {events = events} {s = s} {s' = s'} e h d =
+    let is : final same (trees size events) s ≡ s' = sym (fun_ext h.cells) in
     record {
-      tells =
-          ap₂ (λ (l : List Report) (x : Report). l ++ (x ∷ []))
-          h.tells (d.tells ∙ ap (λ (z : Contents Cell). filed (report (run same (tree size e) z))) is)
-          ∙ sym (map-append filed (reports same (trees size events) s) (report (run same (tree size e) (final same (trees size events) s)) ∷ []))
-          ∙ ap (map filed) (sym (reports_snoc (tree size e) (trees size events) s)
-          ∙ ap (λ (l : List (Steps Answer)). reports same l s) (sym (map-append (tree size) events (e ∷ []))));
-      cells = λ x.
-          d.cells x
-          ∙ ap (λ (z : Contents Cell). (run same (tree size e) z).after x) is
-          ∙ ap (λ (z : Contents Cell). z x) (sym (final_snoc (tree size e) (trees size events) s))
-          ∙ ap (λ (l : List (Steps Answer)). final same l s x) (sym (map-append (tree size) events (e ∷ [])));
+      tells = rw (map_push, reports_snoc, map_push, is) (ap₂ (λ (l : List Report) (x : Report). l ++ (x ∷ [])) h.tells d.tells);
+      cells = λ x. rw (map_push, final_snoc, is) (d.cells x);
     }
 
 -- one event more of a list, whose report is written at its place
@@ -97,10 +88,10 @@ module _ {size : ℕ} {events : List Event} {s s' : Contents Cell} {rs : List Re
   tells_told = ap (map told) h.tells ∙ told_filed (reports same (trees size events) s)
 
   pub frames_hold : Each Frames (trees size events) s (map told rs)
-  frames_hold = subst (Each Frames (trees size events) s) (sym tells_told) (frames_each (trees size events) s)
+  frames_hold = rw tells_told (frames_each (trees size events) s)
 
   pub depends_hold : Each Depends (trees size events) s (map told rs)
-  depends_hold = subst (Each Depends (trees size events) s) (sym tells_told) (depends_each (trees size events) s)
+  depends_hold = rw tells_told (depends_each (trees size events) s)
 
   pub any_order : AnyOrder size events s rs s'
   any_order p fs t t' qs o keeps taken alike k =
@@ -115,10 +106,4 @@ reports_take (suc k) [] s = refl
 reports_take (suc k) (e ∷ es) s = ap (λ (l : Tellings). report (run same e s) ∷ l) (reports_take k es (run same e s).after)
 
 pub prefixes : {size : ℕ} {events : List Event} {s s' : Contents Cell} {rs : List Report} → Runs size events s rs s' → Prefixes size events s rs
-prefixes {size = size} {events = events} {s = s} h k =
-    any_order (record {
-      tells =
-          ap (take k) h.tells ∙ take-map filed k (reports same (trees size events) s)
-          ∙ ap (map filed) (reports_take k (trees size events) s ∙ ap (λ (l : List (Steps Answer)). reports same l s) (take-map (tree size) k events));
-      cells = λ x. refl;
-    })
+prefixes h k = any_order (record { tells = rw (h.tells, take-map, reports_take, take-map); cells = λ x. refl })

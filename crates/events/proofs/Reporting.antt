@@ -77,7 +77,7 @@ does size n e {s = s} {s' = s'} {r' = r'} {new = new} h did is =
     let m = asked_tree size n e.ask in
     let t = (run same m s).trail in
     let d = rw (length-take-le n blanks (omega arith)) at did in
-    let list : new ++ drop n blanks ≡ over t blanks = ap (λ (es : List (Entry Cell)). es ++ drop n blanks) d.list ∙ over_first t n (lists_none size n e.ask s) in
+    let list : new ++ drop n blanks ≡ over t blanks = rw d.list (over_first t n (lists_none size n e.ask s)) in
     let does : Does m s (report_of r' (new ++ drop n blanks)) s' = record {
       tells = ap₂ report_of (sym is ∙ d.result) list ∙ of_counted (run same m s).end (length t) (over t blanks);
       cells = d.cells;
