@@ -1,7 +1,7 @@
 // Events as values, and lists of them on one machine.
 #![tactic(auto)]
 
-ghost use Rattle.std.specs.Prelude.{◌≡◌, ℕ, ◌<◌, ◌≤◌, List, length, take, drop, MatchResult, OnOk};
+ghost use Rattle.std.specs.Prelude.{◌≡◌, length, take, drop, MatchResult, OnOk};
 ghost use Rattle.machine.specs.Calls.{cells_of, Did};
 ghost use Rattle.events.specs.Rows.{room_told, Runs, FramesEach, DependsEach, AnyOrder, Prefixes};
 ghost use Rattle.events.specs.Events.{asked_tree, tree, told, Does};
@@ -34,7 +34,7 @@ pub struct Event {
     pub room: usize,
 }
 
-// What an event came to: its answer or refusal, and its trail up to the count. No event allocates, so the trail is an array.
+// What an event came to: its answer or refusal, and its trail up to the count, in an array, since no event allocates.
 #[derive(Clone, Copy)]
 pub struct Report {
     pub end: Result<Answer, Refusal>,
@@ -51,8 +51,8 @@ impl Report {
     }
 }
 
-// Makes the call that is asked for, on the list that it is given. What is asked is an enum and no closure: events are
-// values, which are kept, copied and put into other orders. RAM is lent to each call, so every clause has it by the machine.
+// Makes the call that is asked for, on the list that it is given. What is asked is an enum and no closure, since events
+// are kept, copied and put into other orders. RAM is lent to each call, so clauses name it beside the machine.
 pub fn call<I: Card, O: Card>(
     machine: &mut Machine<I, O>,
     ram: &mut [u16],
@@ -118,7 +118,7 @@ pub fn run<I: Card, O: Card>(
     if reports.len() < events.len() {
         return Err(NoRoom);
     }
-    // Written by index: of what is written in a zip over `iter_mut`, nothing is known once it ends.
+    // Written by index, since a proof knows nothing of what a zip over `iter_mut` wrote.
     for (i, event) in events.iter().enumerate() {
         reports[i] = apply(machine, ram, *event);
     }
