@@ -7,7 +7,7 @@ ghost use Rattle.law.specs.Entries.{cell_of, touch_number};
 ghost use Rattle.law.specs.Order.{OrderLaw};
 
 // An entry of a trail: a cell, and whether the event read or changed it.
-#[derive(Clone, Copy)]
+#[derive(Clone, Copy, PartialEq, Eq, Debug)]
 pub enum Entry<C> {
     Read(C),
     Changed(C),
@@ -18,8 +18,7 @@ impl<C: Copy> Entry<C> {
         ensures { result ≡ cell_of self }
     {
         match self {
-            Entry::Read(c) => c,
-            Entry::Changed(c) => c,
+            Entry::Read(c) | Entry::Changed(c) => c,
         }
     }
 
