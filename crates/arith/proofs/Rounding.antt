@@ -1,49 +1,19 @@
 -- The two ways to round a signed quotient.
-use Rattle.std.proofs.Common.{◌≡◌, ℕ, zero, suc, ◌+◌, ◌-◌, ◌*◌, ◌/◌, ◌%◌, ◌<◌, Bool, true, false, cond, ℤ, pos, negsuc, ◌+ℤ◌, ◌-ℤ◌, ◌*ℤ◌, neg_ℤ, nat_abs, ◌≤ℤ◌, sym, refl, ap, ◌∙◌, inl, inr, mod-lt, mul-zero, mul-suc, arith}
+use Rattle.std.proofs.Common.{◌≡◌, ℕ, ◌-◌, ◌/◌, ◌%◌, ◌<◌, Bool, true, false, cond, ℤ, pos, negsuc, ◌+ℤ◌, ◌-ℤ◌, ◌*ℤ◌, nat_abs, ◌≤ℤ◌, ◌<ℤ◌, ◌⊎◌, sym, refl, ap, ◌∙◌, inl, inr, mod-lt, mul-suc, arith}
 use native.Mathlib.Nat.{div-add-mod}
-use lib.IntN.{neg_ℤ-+ℤ, pred_ℤ-*ℤ, *ℤ_comm, -ℤ_one}
+use lib.IntN.{pred_ℤ-*ℤ, *ℤ_comm, -ℤ_one}
 use lib.Signed.{quot_z, rem_z, shr_z}
-use Rattle.std.proofs.lemmas.Int.{ints}
+use Rattle.std.proofs.lemmas.Int.{ints, quot-rem, rem_below}
 use Rattle.arith.specs.Divisions.{opposed, floor_quotient, floor_remainder}
 use Rattle.arith.specs.Laws.{Floor, Truncation}
-use Rattle.arith.proofs.Readings.{neg_size}
 
--- products with a negated natural
-pos_by_negated : (b k : ℕ) → pos b *ℤ neg_ℤ (pos k) ≡ neg_ℤ (pos (b * k))
-pos_by_negated b zero = ap pos (mul-zero b) ∙ sym (ap (λ (n : ℕ). neg_ℤ (pos n)) (mul-zero b))
-pos_by_negated b (suc k) = refl
-
-neg_by_negated : (b k : ℕ) → negsuc b *ℤ neg_ℤ (pos k) ≡ pos (suc b * k)
-neg_by_negated b zero = ap (λ (n : ℕ). neg_ℤ (pos n)) (mul-zero (suc b)) ∙ sym (ap pos (mul-zero (suc b)))
-neg_by_negated b (suc k) = refl
-
--- -(x + y), where x + y is a + 1
-negated_sum : (x y a : ℕ) → x + y ≡ suc a → negsuc a ≡ neg_ℤ (pos x) +ℤ neg_ℤ (pos y)
-negated_sum x y a e = sym (ap (λ (n : ℕ). neg_ℤ (pos n)) e) ∙ neg_ℤ-+ℤ (pos x) (pos y)
-
-not_above : (n : ℕ) → neg_ℤ (pos n) ≤ℤ pos 0
-not_above n = omega (arith, ints)
+rest_sign : (a b : ℤ) → ((pos 0 ≤ℤ a) × (pos 0 ≤ℤ rem_z a b)) ⊎ ((a <ℤ pos 0) × (rem_z a b ≤ℤ pos 0))
+rest_sign (pos a) b = inl (omega (arith, ints), omega (arith, ints))
+rest_sign (negsuc a) b = inr (omega (arith, ints), omega (arith, ints))
 
 pub truncation : (a b : ℤ) → 0 < nat_abs b → Truncation a b (quot_z a b) (rem_z a b)
-truncation (pos a) (pos b) h = record { whole = ap pos (sym (div-add-mod a b)); small = mod-lt a h; sign = inl (omega (arith, ints), omega (arith, ints)) }
-truncation (pos a) (negsuc b) h =
-    record {
-      whole = ap pos (sym (div-add-mod a (suc b))) ∙ sym (ap (λ x. x +ℤ pos (a % suc b)) (neg_by_negated b (a / suc b)));
-      small = mod-lt a h;
-      sign = inl (omega (arith, ints), omega (arith, ints));
-    }
-truncation (negsuc a) (pos b) h =
-    record {
-      whole = negated_sum (b * (suc a / b)) (suc a % b) a (div-add-mod (suc a) b) ∙ sym (ap (λ x. x +ℤ neg_ℤ (pos (suc a % b))) (pos_by_negated b (suc a / b)));
-      small = omega (arith, neg_size (suc a % b), mod-lt (suc a) h);
-      sign = inr (omega (arith, ints), not_above (suc a % b));
-    }
-truncation (negsuc a) (negsuc b) h =
-    record {
-      whole = negated_sum (suc b * (suc a / suc b)) (suc a % suc b) a (div-add-mod (suc a) (suc b));
-      small = omega (arith, neg_size (suc a % suc b), mod-lt (suc a) h);
-      sign = inr (omega (arith, ints), not_above (suc a % suc b));
-    }
+truncation a b h =
+    record { whole = sym (quot-rem a b) ∙ ap (λ x. x +ℤ rem_z a b) (*ℤ_comm (quot_z a b) b); small = rem_below a b h; sign = rest_sign a b }
 
 -- one less in the quotient is the divisor more in the remainder
 exchange : (x b r : ℤ) → x +ℤ r ≡ (x -ℤ b) +ℤ (r +ℤ b)

@@ -1,6 +1,7 @@
 -- The shifts of a destination d by a source s.
-use Rattle.std.specs.Prelude.{ℕ, suc, ◌+◌, ◌-◌, ◌*◌, ◌/◌, ◌%◌, ◌^◌, cond, ℤ, pos, negsuc, Some, None, Option, nat_le, unsigned_abs}
+use Rattle.std.specs.Prelude.{◌≡◌, ℕ, suc, ◌+◌, ◌-◌, ◌*◌, ◌/◌, ◌%◌, ◌^◌, cond, ℤ, pos, negsuc, Some, None, Option, nat_le, unsigned_abs}
 use Rattle.std.specs.Int.Signed.{shr_z}
+use Rattle.std.specs.Option.{IsSomeAnd}
 use Rattle.arith.specs.declared.shifts.Shift.{Shift}
 use Rattle.arith.specs.declared.shifts.Shift.TheVariants.{Left, Right}
 use Rattle.arith.specs.Words.{signed, word_of}
@@ -45,3 +46,9 @@ by_shift f d (Some h) = Some (f h d)
 
 abbrev pub shifted : (Shift → ℕ → ℕ) → ℕ → ℕ → Option ℕ
 shifted f s d = by_shift f d (shift_of s)
+
+-- r is d, moved as the source s asks for: `left` and `right` say what a move of d by n places may give
+pub record IsShifted (left right : ℕ → ℕ → ℕ → Type 0) (s d : ℕ) (r : Option ℕ) : Type 0 where
+  pub to_left : (n : ℕ) → shift_of s ≡ Some (Left n) → IsSomeAnd r (left d n)
+  pub to_right : (n : ℕ) → shift_of s ≡ Some (Right n) → IsSomeAnd r (right d n)
+  pub too_far : shift_of s ≡ None → r ≡ None

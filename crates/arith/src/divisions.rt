@@ -4,7 +4,7 @@ ghost use Rattle.arith.specs.Divisions.{opposed, divided_toward_zero, divided_do
 ghost use Rattle.arith.specs.Laws.{Truncated, Floored};
 
 // The quotient and the remainder as words. Of 8000 by FFFF the quotient is 32,768, which is the word 8000 again.
-#[derive(Clone, Copy)]
+#[derive(Clone, Copy, PartialEq, Eq, Debug)]
 pub struct Division {
     pub quotient: u16,
     pub remainder: u16,

@@ -27,21 +27,21 @@ pub fn widen(byte: u8) -> u16
     ensures { result ≡ widened byte }
 {
     if byte < 128 {
-        byte as u16
+        u16::from(byte)
     } else {
-        byte as u16 + 0xFF00
+        u16::from(byte) + 0xFF00
     }
 }
 
 fn join(upper: u8, lower: u8) -> u16
     ensures { result ≡ joined upper lower }
 {
-    upper as u16 * 256 + lower as u16
+    u16::from_be_bytes([upper, lower])
 }
 
 // What a command does with its two words. The names of the four moves of a byte say first which byte of the source is
 // taken, and then which byte of the destination it replaces.
-#[derive(Clone, Copy)]
+#[derive(Clone, Copy, PartialEq, Eq, Debug)]
 pub enum Operation {
     Move,
     ZeroExtend,
@@ -75,7 +75,7 @@ impl Operation {
     {
         match self {
             Operation::Move => Some(source),
-            Operation::ZeroExtend => Some(low_byte(source) as u16),
+            Operation::ZeroExtend => Some(u16::from(low_byte(source))),
             Operation::SignExtend => Some(widen(low_byte(source))),
             Operation::LowToHigh => Some(join(low_byte(source), low_byte(destination))),
             Operation::HighToLow => Some(join(high_byte(destination), high_byte(source))),
@@ -101,7 +101,7 @@ impl Operation {
 }
 
 // How a source may stand to a destination: the first six compare words as they stand, the last four as signed numbers.
-#[derive(Clone, Copy)]
+#[derive(Clone, Copy, PartialEq, Eq, Debug)]
 pub enum Relation {
     Equal,
     NotEqual,

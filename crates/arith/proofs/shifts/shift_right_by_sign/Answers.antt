@@ -1,6 +1,10 @@
-use Rattle.arith.proofs.Powers.{sign_out}
+use Rattle.std.proofs.Common.{rules}
+use Rattle.arith.specs.Words.{signed}
+use Rattle.arith.proofs.Powers.{only_sign}
+use Rattle.arith.proofs.Readings.{signed_fits}
 use Rattle.arith.proofs.shifts.shift_right_by_sign.Goals as goal
 
 pub returns : goal.returns
 returns c =
-    sign_out c.args.word c.args.by _ _ _ c.cast_signed.ensures c.min.ensures c.cast_unsigned.ensures
+    let sign = only_sign (signed c.args.word) c.args.by (signed_fits c.args.word) in
+    search (rules, sign)
