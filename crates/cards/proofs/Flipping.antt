@@ -1,24 +1,15 @@
 -- Lines that are flipped by a mask, and how one write below changes them.
-use Rattle.std.proofs.Common.{◌≡◌, ℕ, ◌<◌, Bool, true, false, not, List, length, get_or, set, sym, refl, ap, ◌∙◌, get_or-set_other, get_or-set_same}
+use Rattle.std.proofs.Common.{◌≡◌, ℕ, ◌<◌, Bool, true, false, not, List, length, get_or, set, refl, ap, ◌∙◌, get_or-set_other, get_or-set_same}
 use mathlib.Core.Bool.{beq}
 use Rattle.cards.specs.Flips.{flip, flipped_line, flipped}
-use Rattle.cards.proofs.Rows.{lines_at, lines_set}
+use Rattle.cards.proofs.Rows.{lines_set}
 
 -- the code flips by `^`
-flip_xor : (m x : Bool) → not (beq x m) ≡ flip m x
-flip_xor true true = refl
-flip_xor true false = refl
-flip_xor false true = refl
-flip_xor false false = refl
-
 flip_back : (m x : Bool) → flip m (not (beq x m)) ≡ x
 flip_back true true = refl
 flip_back true false = refl
 flip_back false true = refl
 flip_back false false = refl
-
-pub flipped_at : (mask xs : List Bool) (n : ℕ) → n < 256 → not (beq (get_or xs n false) (get_or mask n false)) ≡ get_or (flipped mask xs) n false
-flipped_at mask xs n h = flip_xor (get_or mask n false) (get_or xs n false) ∙ sym (lines_at (flipped_line mask xs) n h)
 
 pub flipped_set : (mask xs : List Bool) (n : ℕ) (on : Bool) → n < 256 → n < length xs
     → flipped mask (set xs n (not (beq on (get_or mask n false)))) ≡ set (flipped mask xs) n on

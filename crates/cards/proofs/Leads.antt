@@ -17,14 +17,12 @@ pub is_straight : (to : List ℕ) → length to ≡ 256 → ((i : ℕ) → i < 2
 is_straight to e h =
     ext_get_or 0 _ _ (e ∙ sym length_straight) (λ i l. let k : i < 256 = omega arith in h i k ∙ sym (straight_at i k))
 
+pub is_apart : (to : List ℕ) → ((i : ℕ) → i < 256 → get_or to i 0 ≡ i) → OneToOne to
+is_apart to h i j k = sym (h i k.0) ∙ k.2 ∙ h j k.1
+
 pub crossed_straight : (to : List ℕ) (xs : List Bool) → to ≡ straight → length xs ≡ 256 → crossed to xs ≡ xs
 crossed_straight to xs s e =
     lines_same xs (crossed_line to xs) e (λ i h. ap (λ k. get_or xs k false) (ap (λ l. get_or l i 0) s ∙ straight_at i h))
-
--- line n is read at its contact k
-pub crossed_read : (to : List ℕ) (xs : List Bool) (n k : ℕ) (r : Bool) → r ≡ get_or xs k false → k ≡ get_or to n 0 → n < 256
-    → r ≡ get_or (crossed to xs) n false
-crossed_read to xs n k r e c h = e ∙ ap (λ x. get_or xs x false) c ∙ sym (lines_at (crossed_line to xs) n h)
 
 -- a write to n's contact changes no line but n, since no other has that contact
 crossed_set : (to : List ℕ) (xs : List Bool) (n : ℕ) (on : Bool) → OneToOne to → n < 256 → get_or to n 0 < length xs

@@ -20,6 +20,13 @@ lines_past f n h = get_or-eq_default _ _ {n = n} (omega (arith, length_lines f))
 pub lines_stay : (f : ℕ → Bool) (n : ℕ) (on : Bool) → 256 ≤ n → lines_by f ≡ slice_set (lines_by f) n on
 lines_stay f n on h = sym (set_out _ _ _ (omega (arith, length_lines f)))
 
+-- a line that is already what it should be
+pub lines_kept : (f : ℕ → Bool) (n : ℕ) (on : Bool) → slice_index_or (lines_by f) n false ≡ on → lines_by f ≡ slice_set (lines_by f) n on
+lines_kept f n on e = sym (ap (λ x. set (lines_by f) n x) (sym e) ∙ set-get_or (lines_by f) n false)
+
+-- what a read finds, and what a write leaves where it changes nothing
+pub ruleset unchanged = (lines_at, lines_past, lines_stay, lines_kept)
+
 -- lists of 256 lines are the same if every line is
 pub lines_same : (xs : List Bool) (f : ℕ → Bool) → length xs ≡ 256 → ((i : ℕ) → i < 256 → f i ≡ slice_index_or xs i false) → lines_by f ≡ xs
 lines_same xs f e h =
@@ -49,18 +56,14 @@ lines_set f g n on h here there =
         ap g q ∙ here ∙ sym (ap (λ x. get_or (slice_set (lines_by f) n on) x false) q ∙ get_or-set_same (lines_by f) n on false long)
     each i false e l = there i l (eqb-false i n e) ∙ sym (get_or-set_other (lines_by f) n i on false (eqb-false i n e) ∙ lines_at f i l)
 
--- a line that is already what it should be
-pub lines_kept : (f : ℕ → Bool) (n : ℕ) (on : Bool) → n < 256 → f n ≡ on → lines_by f ≡ slice_set (lines_by f) n on
-lines_kept f n on h e = sym (ap (λ x. set (lines_by f) n x) (sym (lines_at f n h ∙ e)) ∙ set-get_or (lines_by f) n false)
-
-pub flipped_is : (was on : Bool) → not (beq was on) ≡ true → not was ≡ on
+flipped_is : (was on : Bool) → not (beq was on) ≡ true → not was ≡ on
 flipped_is true true e = e
 flipped_is true false e = refl
 flipped_is false true e = refl
 flipped_is false false e = sym e
 
-pub kept_is : (was on : Bool) → not (beq was on) ≡ false → was ≡ on
-kept_is true true e = refl
-kept_is true false e = e
-kept_is false true e = sym e
-kept_is false false e = refl
+-- the lines after line n, which was not as it should be, was turned
+pub lines_turned : (f g : ℕ → Bool) (n : ℕ) (on was : Bool) → n < 256 → g n ≡ not (f n) → ((i : ℕ) → i ≢ n → g i ≡ f i)
+    → was ≡ slice_index_or (lines_by f) n false → not (beq was on) ≡ true → lines_by g ≡ slice_set (lines_by f) n on
+lines_turned f g n on was h here there r t =
+    lines_set f g n on h (here ∙ ap not (sym (r ∙ lines_at f n h)) ∙ flipped_is was on t) (λ i l. there i)

@@ -6,7 +6,7 @@ ghost use Rattle.cards.specs.Flips.{flipped, low_lines, flipped_line};
 use super::{Card, LINES};
 
 // Line n is line n of the card below, flipped if the mask has true at n.
-#[derive(Drop)]
+#[derive(Clone, PartialEq, Eq, Debug, Drop)]
 pub struct ActiveLow<C> {
     below: C,
     mask: [bool; 256],
@@ -28,23 +28,19 @@ impl<C: Card> ActiveLow<C> {
     }
 }
 
+#[tactic(auto, using(crate::proofs::Rows::unchanged))]
 impl<C: Card> Card for ActiveLow<C> {
     ghost lines = { λ a. low_lines C.Card.lines a };
 
     ghost size = { λ x. length_lines (flipped_line x.mask (C.Card.lines x.below)) };
 
     fn read(&self, n: u16) -> bool {
-        if n < LINES {
-            self.below.read(n) ^ self.mask[n as usize]
-        } else {
-            false
-        }
+        n < LINES && (self.below.read(n) ^ self.mask[n as usize])
     }
 
     fn write(&mut self, n: u16, on: bool) {
         if n < LINES {
-            let flip = self.mask[n as usize];
-            self.below.write(n, on ^ flip);
+            self.below.write(n, on ^ self.mask[n as usize]);
         }
     }
 }

@@ -1,11 +1,13 @@
 // The table of contacts of a crossing card.
-ghost use Rattle.std.specs.Prelude.{◌≡◌, ℕ, ◌<◌, length, slice_index};
+ghost use Rattle.std.specs.Prelude.{◌≡◌, ℕ, ◌<◌, length, slice_index, ⊤};
 ghost use Rattle.cards.specs.Contacts.{OneToOne, after_exchange, exchange_told, straight};
 
 use super::{CardRefusal, LINES};
+use std::alloc::AllocError;
+use std::array;
 
 // The contact of line n is to[n]. No two lines have one contact.
-#[derive(Drop)]
+#[derive(PartialEq, Eq, Debug, Drop)]
 pub struct Contacts {
     to: [u8; 256],
     ghost size: { length to ≡ 256 },
@@ -17,11 +19,9 @@ impl Contacts {
     pub fn straight() -> Contacts
         ensures { result.to ≡ straight }
     {
-        let mut to = [0; 256];
-        for n in 0..256usize {
-            to[n] = n as u8;
+        Contacts {
+            to: array::from_fn(|n| n as u8),
         }
-        Contacts { to }
     }
 
     pub fn of(&self, n: u16) -> u16
@@ -38,13 +38,21 @@ impl Contacts {
         ensures contacts { self.new.to ≡ after_exchange 0 self.old.to a b }
     {
         if a < LINES && b < LINES {
-            let of_a = self.to[a as usize];
-            let of_b = self.to[b as usize];
-            self.to[a as usize] = of_b;
-            self.to[b as usize] = of_a;
+            self.to.swap(a as usize, b as usize);
             Ok(())
         } else {
             Err(CardRefusal::NoSuchLine)
         }
+    }
+}
+
+// Written out, since Clone is not derived for a struct with ghost fields.
+impl Clone for Contacts {
+    ghost is_clone = { λ x y. y ≡ x };
+
+    ghost is_infallible = { λ _. ⊤ };
+
+    fn clone(&self) -> Result<Contacts, AllocError> {
+        Ok(Contacts { to: self.to })
     }
 }

@@ -8,7 +8,7 @@ use super::contacts::Contacts;
 use super::{Card, CardRefusal, LINES};
 
 // Line n is that line of the card below which is n's contact.
-#[derive(Drop)]
+#[derive(Clone, PartialEq, Eq, Debug, Drop)]
 pub struct Crossing<C> {
     below: C,
     contacts: Contacts,
@@ -44,17 +44,14 @@ impl<C: Card> Crossing<C> {
     }
 }
 
+#[tactic(auto, using(crate::proofs::Rows::unchanged))]
 impl<C: Card> Card for Crossing<C> {
     ghost lines = { λ c. crossing_lines C.Card.lines c };
 
     ghost size = { λ x. length_lines (crossed_line x.contacts.to (C.Card.lines x.below)) };
 
     fn read(&self, n: u16) -> bool {
-        if n < LINES {
-            self.below.read(self.contacts.of(n))
-        } else {
-            false
-        }
+        n < LINES && self.below.read(self.contacts.of(n))
     }
 
     fn write(&mut self, n: u16, on: bool) {

@@ -6,7 +6,7 @@ ghost use Rattle.cards.specs.Lines.{all_off, length_lines};
 use super::{Card, CardRefusal, LINES};
 
 // A 32-bit count of switchings for each line, which wraps. A line with an odd count is on.
-#[derive(Drop)]
+#[derive(Clone, PartialEq, Eq, Debug, Drop)]
 pub struct Wear {
     counts: [u32; 256],
 }
@@ -23,25 +23,21 @@ impl Wear {
     pub fn count(&self, n: u16) -> Result<u32, CardRefusal>
         ensures { result ≡ count_told self.now n }
     {
-        if n < LINES {
-            Ok(self.counts[n as usize])
-        } else {
-            Err(CardRefusal::NoSuchLine)
-        }
+        self.counts
+            .get(n as usize)
+            .copied()
+            .ok_or(CardRefusal::NoSuchLine)
     }
 }
 
+#[tactic(auto, using(crate::proofs::Rows::unchanged))]
 impl Card for Wear {
     ghost lines = { worn_lines };
 
     ghost size = { λ x. length_lines (worn x.counts) };
 
     fn read(&self, n: u16) -> bool {
-        if n < LINES {
-            self.counts[n as usize] % 2 == 1
-        } else {
-            false
-        }
+        n < LINES && self.counts[n as usize] % 2 == 1
     }
 
     // A line that is already as it should be is not switched, and not counted.
@@ -49,12 +45,8 @@ impl Card for Wear {
         ensures lines { worn_lines self.new ≡ slice_set (worn_lines self.old) n on }
         ensures counts { self.new.counts ≡ counts_after self.old.counts n on }
     {
-        if n < LINES {
-            let count = self.counts[n as usize];
-            let was = count % 2 == 1;
-            if was != on {
-                self.counts[n as usize] = count.wrapping_add(1);
-            }
+        if n < LINES && self.read(n) != on {
+            self.counts[n as usize] = self.counts[n as usize].wrapping_add(1);
         }
     }
 }

@@ -1,14 +1,13 @@
-use Rattle.std.proofs.Common.{◌<◌, ◌≢◌, length, ◌∙◌, arith, length-set, get_or-set_other, get_or-set_same, below_more}
-use Rattle.cards.proofs.Leads.{is_straight}
+use Rattle.std.proofs.Common.{rules}
+use Rattle.cards.proofs.Leads.{is_straight, is_apart}
 use Rattle.cards.proofs.contacts.Contacts.straight.Goals as goal
 
-pub loop-n-preserved : goal.loop-n-preserved
-loop-n-preserved c = (
-  length-set c.loop-n.to c.loop-n.n c.loop-n.n ∙ c.loop-n.invariant.0,
-  below_more _ _
-      (λ k h. let ne : k ≢ c.loop-n.n = omega arith in rw get_or-set_other (c.loop-n.invariant.1 k h))
-      (let lt : c.loop-n.n < length c.loop-n.to = omega arith in rw get_or-set_same),
-)
+pub invariant_of-result : goal.invariant_of-result
+invariant_of-result c = record {
+  size = c.from_fn.ensures.items.long;
+  apart = is_apart c.from_fn.result (λ i h. let made = c.from_fn.ensures.items.at i 0 h in search rules);
+}
 
 pub returns : goal.returns
-returns c = is_straight c.loop-n.to c.loop-n.invariant.0 (λ i h. c.loop-n.invariant.1 i (omega arith))
+returns c =
+    is_straight c.from_fn.result c.from_fn.ensures.items.long (λ i h. let made = c.from_fn.ensures.items.at i 0 h in search rules)

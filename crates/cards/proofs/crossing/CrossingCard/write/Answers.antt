@@ -1,7 +1,5 @@
 use Rattle.std.proofs.Common.{arith}
-use Rattle.cards.specs.Crosses.{crossed_line}
 use Rattle.cards.proofs.Leads.{crossed_write}
-use Rattle.cards.proofs.Rows.{lines_stay}
 use Rattle.cards.proofs.crossing.CrossingCard.write.Goals as goal
 
 pub returns-then-n-lt-LINES : goal.returns-then-n-lt-LINES
@@ -9,8 +7,3 @@ returns-then-n-lt-LINES g c =
     let size = g.met.C.Card.size c.args.self.now.below in
     crossed_write c.args.self.now.contacts.to (g.C.Card.lines c.args.self.now.below) (g.C.Card.lines c.write.new.self) c.args.n
     c.of.result c.args.on c.args.self.now.contacts.apart c.write.ensures c.of.ensures.contact (omega arith) (omega arith)
-
-pub returns-else-n-lt-LINES : goal.returns-else-n-lt-LINES
-returns-else-n-lt-LINES g c =
-    let line = crossed_line c.args.self.now.contacts.to (g.C.Card.lines c.args.self.now.below) in
-    lines_stay line c.args.n c.args.on (omega arith)

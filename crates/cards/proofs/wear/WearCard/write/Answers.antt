@@ -1,30 +1,17 @@
-use Rattle.std.proofs.Common.{◌<◌, length, arith, rules}
-use Rattle.cards.specs.Counts.{worn}
-use Rattle.cards.proofs.Rows.{lines_kept, lines_stay, kept_is}
-use Rattle.cards.proofs.Switches.{turned_lines, turned_counts, kept_counts, past_counts}
+use Rattle.std.proofs.Common.{arith, rules}
+use Rattle.std.proofs.lemmas.List.{set-get_or}
+use Rattle.cards.proofs.Rows.{lines_at}
+use Rattle.cards.proofs.Switches.{worn_turned}
 use Rattle.cards.proofs.wear.WearCard.write.Goals as goal
+use Rattle.cards.proofs.wear.WearCard.write.Goals.{else-n-lt-LINES-via-then-n-lt-LINES+else-read-on, else-n-lt-LINES-via-else-n-lt-LINES}
 
-pub returns-then-was-on : goal.returns-then-was-on
-returns-then-was-on c =
-    let cs = c.args.self.now.counts in
-    let n = c.args.n in
-    let within : n < length cs = search rules in
-    record {
-      lines = turned_lines cs n c.args.on (omega arith) within c.if-was-on.true;
-      counts = turned_counts cs n c.args.on (omega arith) c.if-was-on.true;
-    }
+pub returns-then-read-on-clause-lines : goal.returns-then-read-on-clause-lines
+returns-then-read-on-clause-lines c =
+    worn_turned c.args.self.now.counts c.args.n c.args.on _ (omega arith) (search rules) c.read.ensures c.if-read-on.true
 
-pub returns-else-was-on : goal.returns-else-was-on
-returns-else-was-on c =
-    let cs = c.args.self.now.counts in
-    let n = c.args.n in
-    record {
-      lines = lines_kept (worn cs) n c.args.on (omega arith) (kept_is _ _ c.if-was-on.false);
-      counts = kept_counts cs n c.args.on (omega arith) c.if-was-on.false;
-    }
-
-pub returns-else-n-lt-LINES : goal.returns-else-n-lt-LINES
-returns-else-n-lt-LINES c =
-    let cs = c.args.self.now.counts in
-    let n = c.args.n in
-    record { lines = lines_stay (worn cs) n c.args.on (omega arith); counts = past_counts cs n c.args.on (omega arith) }
+pub returns-else-n-lt-LINES-clause-counts : goal.returns-else-n-lt-LINES-clause-counts
+returns-else-n-lt-LINES-clause-counts c =
+    elim c.else-n-lt-LINES.branch [
+      | else-n-lt-LINES-via-then-n-lt-LINES+else-read-on w ↦ grind (arith, lines_at, set-get_or)
+      | else-n-lt-LINES-via-else-n-lt-LINES w ↦ grind arith
+    ]
