@@ -1,6 +1,6 @@
 // Shifts of the destination by the source.
 ghost use Rattle.std.specs.Prelude.{◌≡◌};
-ghost use Rattle.arith.specs.Shifts.{shift_of, left_by, right_by, right_by_sign, shifted, logical_shift, arithmetic_shift, rotation, IsShifted};
+ghost use Rattle.arith.specs.Shifts.{shift_of, right_by_sign, shifted, logical_shift, arithmetic_shift, rotation, IsShifted};
 ghost use Rattle.arith.specs.Laws.{Logical, Arithmetic, Rotation};
 
 // Where to, and by how many bits.
@@ -51,7 +51,7 @@ fn shifted_by<L: FnOnce(u16, u32) -> u16, R: FnOnce(u16, u32) -> u16>(
     }
 }
 
-// Zeros come in on either side.
+// Zeros come in on either side. By 16 and more, every bit is shifted out.
 pub fn logical(source: u16, destination: u16) -> Option<u16>
     ensures value { result ≡ shifted logical_shift source destination }
     ensures powers { Logical source destination result }

@@ -25,16 +25,11 @@ crossed_straight to xs s e =
     lines_same xs (crossed_line to xs) e (λ i h. ap (λ k. get_or xs k false) (ap (λ l. get_or l i 0) s ∙ straight_at i h))
 
 -- a write to n's contact changes no line but n, since no other has that contact
-crossed_set : (to : List ℕ) (xs : List Bool) (n : ℕ) (on : Bool) → OneToOne to → n < 256 → get_or to n 0 < length xs
+pub crossed_set : (to : List ℕ) (xs : List Bool) (n : ℕ) (on : Bool) → OneToOne to → n < 256 → get_or to n 0 < length xs
     → crossed to (set xs (get_or to n 0) on) ≡ set (crossed to xs) n on
 crossed_set to xs n on apart h within =
     lines_set (crossed_line to xs) (crossed_line to (set xs (get_or to n 0) on)) n on h (get_or-set_same xs (get_or to n 0) on false within)
     (λ i l ne. get_or-set_other xs (get_or to n 0) (get_or to i 0) on false (λ e. ne (apart i n (l, h, e))))
-
-pub crossed_write : (to : List ℕ) (xs ys : List Bool) (n k : ℕ) (on : Bool) → OneToOne to → ys ≡ set xs k on → k ≡ get_or to n 0 → n < 256 → k < length xs
-    → crossed to ys ≡ set (crossed to xs) n on
-crossed_write to xs ys n k on apart e c h within =
-    ap (crossed to) (e ∙ ap (λ x. set xs x on) c) ∙ crossed_set to xs n on apart h (omega arith)
 
 -- one contact more is changed
 led : (to : List ℕ) (xs : List Bool) (n c : ℕ) → length to ≡ 256 → n < 256 → crossed (set to n c) xs ≡ set (crossed to xs) n (get_or xs c false)

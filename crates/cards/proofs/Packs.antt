@@ -1,16 +1,12 @@
 -- Lines that are packed into bytes, and how one bit changes them.
-use Rattle.std.proofs.Common.{◌≡◌, ℕ, zero, suc, ◌+◌, ◌/◌, ◌%◌, ◌^◌, ◌<◌, Bool, true, false, not, eqb, ◌≢◌, List, length, get_or, set, replicate, sym, refl, ap, ◌∙◌, arith, get_or-set_other, get_or-set_same, eqb-true}
-use native.Mathlib.Nat.{zero-div}
+use Rattle.std.proofs.Common.{◌≡◌, ℕ, ◌+◌, ◌/◌, ◌%◌, ◌^◌, ◌<◌, Bool, true, false, not, eqb, ◌≢◌, List, length, get_or, set, replicate, sym, refl, ap, ◌∙◌, arith, get_or-set_other, get_or-set_same, eqb-true}
+use mathlib.Core.Bool.{beq}
 use borrow.Author.Tests.{eqb-false}
 use lib.Bits.{bit_xor}
 use lib.ListN.{get_or-replicate}
-use Rattle.std.proofs.lemmas.Nat.Bits.{bit_at_xor, bit_at-pow_same, bit_at-pow_other}
+use Rattle.std.proofs.lemmas.Nat.Bits.{bit_at-zero, bit_at_xor, bit_at-pow_same, bit_at-pow_other}
 use Rattle.cards.specs.Lines.{all_off, bit, line, unpacked}
-use Rattle.cards.proofs.Rows.{lines_off, lines_turned}
-use mathlib.Core.Bool.{beq}
-
-no_bit : (k : ℕ) → bit 0 k ≡ false
-no_bit k = let e : 0 / 2 ^ k ≡ 0 = zero-div (2 ^ k) in rw e
+use Rattle.cards.proofs.Rows.{lines_off, odd_turned, lines_turned}
 
 -- bytes that are all 0 have every line off
 pub unpacked_zeros : unpacked (replicate 32 0) ≡ all_off
@@ -19,17 +15,12 @@ unpacked_zeros = lines_off (line (replicate 32 0)) zero_line
     zero_line : (i : ℕ) → i < 256 → line (replicate 32 0) i ≡ false
     zero_line i h =
         let within : i / 8 < 32 = omega arith in
-        ap (λ b. bit b (i % 8)) (get_or-replicate 32 (i / 8) 0 0 within) ∙ no_bit (i % 8)
+        ap (λ b. bit b (i % 8)) (get_or-replicate 32 (i / 8) 0 0 within) ∙ ap (λ x. eqb x 1) (bit_at-zero (i % 8))
 
 -- to exclusive-or with a power of two turns one bit, and no other
-turned_bit : (x : ℕ) → x < 2 → eqb ((x + 1) % 2) 1 ≡ not (eqb x 1)
-turned_bit zero h = refl
-turned_bit (suc zero) h = refl
-turned_bit (suc (suc x)) h = absurd (omega arith)
-
 bit_here : (b k : ℕ) → bit (bit_xor b (2 ^ k)) k ≡ not (bit b k)
 bit_here b k =
-    ap (λ x. eqb x 1) (bit_at_xor b (2 ^ k) k ∙ ap (λ x. (b / 2 ^ k % 2 + x) % 2) (bit_at-pow_same k)) ∙ turned_bit (b / 2 ^ k % 2) (omega arith)
+    ap (λ x. eqb x 1) (bit_at_xor b (2 ^ k) k ∙ ap (λ x. (b / 2 ^ k % 2 + x) % 2) (bit_at-pow_same k)) ∙ odd_turned (b / 2 ^ k % 2) (omega arith)
 
 bit_there : (b k j : ℕ) → j ≢ k → bit (bit_xor b (2 ^ k)) j ≡ bit b j
 bit_there b k j ne =

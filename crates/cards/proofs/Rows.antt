@@ -1,5 +1,5 @@
 -- A list of 256 lines: what stands in it, and how one write changes it.
-use Rattle.std.specs.Prelude.{◌≡◌, ℕ, ◌<◌, ◌≤◌, Bool, true, false, not, ◌≢◌, List, length, get_or, set, ◌==◌, slice_index_or, slice_set, refl}
+use Rattle.std.specs.Prelude.{◌≡◌, ℕ, zero, suc, ◌+◌, ◌%◌, ◌<◌, ◌≤◌, Bool, true, false, not, ◌≢◌, List, length, get_or, set, ◌==◌, slice_index_or, slice_set, refl}
 use Rattle.std.proofs.Common.{sym, ap, ◌∙◌, arith, eqb-true, length-set, get_or-set_same, get_or-set_other, ext_get_or}
 use Rattle.std.specs.Bool.{beq}
 use Rattle.std.proofs.lemmas.Bool.{eqb-false}
@@ -55,6 +55,12 @@ lines_set f g n on h here there =
         let long : n < length (lines_by f) = omega (arith, length_lines f) in
         ap g q ∙ here ∙ sym (ap (λ x. get_or (slice_set (lines_by f) n on) x false) q ∙ get_or-set_same (lines_by f) n on false long)
     each i false e l = there i l (eqb-false i n e) ∙ sym (get_or-set_other (lines_by f) n i on false (eqb-false i n e) ∙ lines_at f i l)
+
+-- one more, or one bit turned, makes an odd number even and an even one odd
+pub odd_turned : (x : ℕ) → x < 2 → ((x + 1) % 2 == 1) ≡ not (x == 1)
+odd_turned zero h = refl
+odd_turned (suc zero) h = refl
+odd_turned (suc (suc x)) h = absurd (omega arith)
 
 flipped_is : (was on : Bool) → not (beq was on) ≡ true → not was ≡ on
 flipped_is true true e = e

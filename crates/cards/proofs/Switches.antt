@@ -1,11 +1,10 @@
 -- Counts of switchings: how one more changes the lines.
-use Rattle.std.proofs.Common.{◌≡◌, ℕ, ◌+◌, ◌%◌, ◌^◌, ◌<◌, Bool, true, false, not, ◌≢◌, List, length, get_or, set, replicate, refl, ap, ◌∙◌, arith, get_or-set_other, get_or-set_same, eq-eqb, ne_eqb, eqb-true}
+use Rattle.std.proofs.Common.{◌≡◌, ℕ, ◌+◌, ◌%◌, eqb, ◌^◌, ◌<◌, Bool, true, false, not, List, length, get_or, set, replicate, refl, ap, ◌∙◌, arith, get_or-set_other, get_or-set_same}
 use mathlib.Core.Bool.{beq}
-use borrow.Author.Tests.{eqb-false}
 use lib.ListN.{get_or-replicate}
 use Rattle.cards.specs.Lines.{all_off, lines_by}
 use Rattle.cards.specs.Counts.{all_zero, odd, worn}
-use Rattle.cards.proofs.Rows.{lines_off, lines_turned}
+use Rattle.cards.proofs.Rows.{lines_off, odd_turned, lines_turned}
 
 pub zero_counts : replicate 256 0 ≡ all_zero
 unfolding all_zero
@@ -16,11 +15,7 @@ zero_lines = lines_off (worn (replicate 256 0)) (λ i h. ap odd (get_or-replicat
 
 -- 2 ^ 32 is even, so a count that wraps turns the line as any other does
 odd_next : (c : ℕ) → odd ((c + 1) % 2 ^ 32) ≡ not (odd c)
-odd_next c = by_test (odd c) refl
-  where
-    by_test : (b : Bool) → odd c ≡ b → odd ((c + 1) % 2 ^ 32) ≡ not b
-    by_test true e = let q : c % 2 ≡ 1 = eqb-true (c % 2) 1 e in ne_eqb ((c + 1) % 2 ^ 32 % 2) 1 (λ p. omega (arith, p))
-    by_test false e = let q : c % 2 ≢ 1 = eqb-false (c % 2) 1 e in eq-eqb ((c + 1) % 2 ^ 32 % 2) 1 (omega arith)
+odd_next c = ap (λ x. eqb x 1) (omega arith) ∙ odd_turned (c % 2) (omega arith)
 
 pub worn_turned : (cs : List ℕ) (n : ℕ) (on was : Bool) → n < 256 → n < length cs → was ≡ get_or (lines_by (worn cs)) n false → not (beq was on) ≡ true
     → lines_by (worn (set cs n ((get_or cs n 0 + 1) % 2 ^ 32))) ≡ set (lines_by (worn cs)) n on

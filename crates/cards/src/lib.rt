@@ -1,7 +1,7 @@
 // Cards of 256 lines, which are on or off.
 #![tactic(auto)]
 
-ghost use Rattle.std.specs.Prelude.{◌≡◌, ℕ, Bool, false, List, length, slice_index_or, slice_set};
+ghost use Rattle.std.specs.Prelude.{◌≡◌, Bool, false, List, length, slice_index_or, slice_set};
 ghost use Rattle.cards.specs.Lines.{all_off, packed_lines, line, length_lines};
 ghost use Rattle.cards.specs.Refusals.{refusal_number};
 
