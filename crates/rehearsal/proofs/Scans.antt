@@ -1,37 +1,46 @@
--- Loops that look through a list from the start, and stop at the first that is found.
-use Rattle.std.proofs.Common.{◌≡◌, ℕ, zero, suc, ◌+◌, ◌<◌, ◌≤◌, Bool, true, false, cond, List, [], ◌∷◌, length, get_or, drop, Some, None, Option, sym, refl, ap, ◌∙◌, le_of_suc-le-suc, not-suc-le-zero, add-one, drop-cons}
-use Rattle.rehearsal.specs.Tests.{any, or_else, first}
+-- `find_map` over a range, said of the numbers in it.
+use Rattle.std.proofs.Common.{◌≡◌, ℕ, ◌+◌, ◌-◌, ◌<◌, ◌≤◌, Some, None, Option, MatchOption, IsSomeAnd, IfSome, IsTrue, option_map, sym, refl, ap, ◌∙◌, subst, arith}
+use Rattle.std.specs.Fn.{Called}
+use Rattle.std.specs.Iterator.Runs.{SomeRun, AllItemsGive, IsFirstToGive, CallKeepsClosure}
+use Rattle.std.specs.declared.ops.Range.{Range}
+use Rattle.std.proofs.iter.Yields.{nat_range_steps}
+use Rattle.std.proofs.iter.runs.Sources.{range_runs}
+use denote.Param.Members.{Mut}
 
-drop_end : {X : Type 0} (xs : List X) (i : ℕ) → length xs ≤ i → drop i xs ≡ []
-drop_end [] zero h = refl
-drop_end [] (suc i) h = refl
-drop_end (x ∷ xs) zero h = absurd (not-suc-le-zero h)
-drop_end (x ∷ xs) (suc i) h = drop_end xs i (le_of_suc-le-suc h)
+same_option : {X : Type 0} (o : Option X) → option_map (λ y. y) o ≡ o
+same_option None = refl
+same_option (Some x) = refl
 
--- b is F of what is left of the list: of its first and the rest, or of nothing
-module _ {X Y : Type 0} (F : List X → Y) (xs : List X) (i : ℕ) (b : Y) (inv : b ≡ F (drop i xs)) where
-  pub on : (d : X) → i < length xs → b ≡ F (get_or xs i d ∷ drop (i + 1) xs)
-  on d h = inv ∙ ap F (rw (add-one i) (drop-cons xs i d h))
+module _ {F B : Type 0} {g : Mut F (ℕ × Unit {0}) (Option B)} {s : Range ℕ} {f : F} (No : ℕ → Type 0) (Yes : ℕ → B → Type 0) where
+  pub first_given : (r : Option B)
+      → SomeRun nat_range_steps s (λ p. MatchOption r (IsTrue p.whole × AllItemsGive p g f None) (λ y. (i : ℕ) × (i < p.len) × (p.len ≡ i + 1) × IsFirstToGive p g f (Some y) None i))
+      → CallKeepsClosure g f
+      → ((i : ℕ) → s.start ≤ i → i < s.end → Called g f (i, tt) None f → No i)
+      → ((i : ℕ) (y : B) → s.start ≤ i → i < s.end → Called g f (i, tt) (Some y) f → Yes i y)
+      → MatchOption r ((k : ℕ) → s.start ≤ k → k < s.end → No k) (λ y. (i : ℕ) × (s.start ≤ i) × (i < s.end) × Yes i y × ((k : ℕ) → s.start ≤ k → k < i → No k))
+  first_given r (p, from, h) keeps none some = by r h
+    where
+      start : p.from.start ≡ s.start
+      start = ap (λ (x : Range ℕ). x.start) from
 
-  pub off : length xs ≤ i → b ≡ F []
-  off h = inv ∙ ap F (drop_end xs i h)
+      long : (p.len ≤ s.end - s.start) × (IsTrue p.whole → p.len ≡ s.end - s.start)
+      long = subst (λ (x : Range ℕ). (p.len ≤ x.end - x.start) × (IsTrue p.whole → p.len ≡ x.end - x.start)) from ((range_runs p p.seen).0, (range_runs p p.seen).1)
 
-module _ {X : Type 0} (f : X → Bool) (xs : List X) (i : ℕ) (b : Bool) (inv : b ≡ any f (drop i xs)) where
-  pub hit : (d : X) → i < length xs → f (get_or xs i d) ≡ true → true ≡ b
-  hit d h t = sym (on (any f) xs i b inv d h ∙ ap (λ (z : Bool). cond z true (any f (drop (i + 1) xs))) t)
+      at : (k : ℕ) → s.start ≤ k → k < s.start + p.len → p.at (k - s.start) ≡ Some k
+      at k a b =
+          let e : p.from.start + (k - s.start) ≡ k = omega (arith, start) in
+          sym (same_option (p.at (k - s.start))) ∙ (range_runs p p.seen).3 (k - s.start) (omega arith) ∙ ap Some e
 
-  pub miss : (d : X) → i < length xs → f (get_or xs i d) ≡ false → b ≡ any f (drop (i + 1) xs)
-  miss d h t = on (any f) xs i b inv d h ∙ ap (λ (z : Bool). cond z true (any f (drop (i + 1) xs))) t
+      missed : (n : ℕ) → n ≤ p.len → ((k : ℕ) → k < n → IsSomeAnd (p.at k) (λ x. Called g f (x, tt) None f)) → (k : ℕ) → s.start ≤ k → k < s.start + n → No k
+      missed n l c k a b =
+          none k a (omega (arith, long.0)) (subst (λ (o : Option ℕ). IsSomeAnd o (λ x. Called g f (x, tt) None f)) (at k a (omega arith)) (c (k - s.start) (omega arith)))
 
-  pub none_left : length xs ≤ i → false ≡ b
-  none_left h = sym (off (any f) xs i b inv h)
-
-module _ {X Y : Type 0} (f : X → Option Y) (xs : List X) (i : ℕ) (b : Option Y) (inv : b ≡ first f (drop i xs)) where
-  pub found : (d : X) (y : Y) → i < length xs → Some y ≡ f (get_or xs i d) → Some y ≡ b
-  found d y h t = sym (on (first f) xs i b inv d h ∙ ap (λ (z : Option Y). or_else z (first f (drop (i + 1) xs))) (sym t))
-
-  pub passed_by : (d : X) → i < length xs → None ≡ f (get_or xs i d) → b ≡ first f (drop (i + 1) xs)
-  passed_by d h t = on (first f) xs i b inv d h ∙ ap (λ (z : Option Y). or_else z (first f (drop (i + 1) xs))) (sym t)
-
-  pub not_found : length xs ≤ i → None ≡ b
-  not_found h = sym (off (first f) xs i b inv h)
+      by : (o : Option B) → MatchOption o (IsTrue p.whole × AllItemsGive p g f None) (λ y. (i : ℕ) × (i < p.len) × (p.len ≡ i + 1) × IsFirstToGive p g f (Some y) None i)
+          → MatchOption o ((k : ℕ) → s.start ≤ k → k < s.end → No k) (λ y. (i : ℕ) × (s.start ≤ i) × (i < s.end) × Yes i y × ((k : ℕ) → s.start ≤ k → k < i → No k))
+      by None c = λ k a b.
+          let e : k < s.start + p.len = omega (arith, long.1 c.0) in
+          none k a b (subst (λ (o : Option ℕ). IfSome o (λ x. Called g f (x, tt) None f)) (at k a e) (c.1 keeps (k - s.start)))
+      by (Some y) (i, l, e, c) =
+          let q = c keeps in
+          let z : s.start + i - s.start ≡ i = omega arith in
+          (s.start + i, omega arith, omega (arith, long.0), some (s.start + i) y (omega arith) (omega (arith, long.0)) (subst (λ (o : Option ℕ). IsSomeAnd o (λ x. Called g f (x, tt) (Some y) f)) (at (s.start + i) (omega arith) (omega arith)) (rw z q.0)), λ k a b. missed i (omega arith) q.1 k a b)

@@ -6,7 +6,7 @@ ghost use Rattle.law.specs.Order.{Taken, Same};
 ghost use Rattle.machine.specs.Calls.{cells_of, Equal};
 ghost use Rattle.events.specs.Events.{told};
 ghost use Rattle.events.specs.Rows.{Runs, AnyOrder};
-ghost use Rattle.rehearsal.specs.Tests.{lists?, touch?, hit?, clash?, member?, before?, distinct?, within?, swap?, Fine, Broken, BrokenAfter};
+ghost use Rattle.rehearsal.specs.Tests.{lists?, changed?, hit?, clash?, member?, before?, distinct?, within?, Fine, IsSwap, Broken, BrokenAfter};
 ghost use Rattle.rehearsal.specs.Rehearsals.{IsOrder, picked, Within, Room, Verdict, IfFirst};
 
 use cards::Card;
@@ -35,24 +35,29 @@ pub enum Objection {
     Swaps(Swap),
 }
 
+impl From<NoRoom> for Objection {
+    ghost use Rattle.rehearsal.specs.declared.Objection.{Objection};
+
+    ghost from_gives = { λ _ objection. objection ≡ Objection.NoRoom };
+
+    fn from(_: NoRoom) -> Objection {
+        Objection::NoRoom
+    }
+}
+
 fn lists(trail: &[Entry<Cell>], cell: Cell) -> bool
     ensures { result ≡ lists? cell trail.now }
 {
-    for i in 0..trail.len() {
-        if trail[i].cell().same(cell) {
-            return true;
-        }
-    }
-    false
+    trail.iter().any(|entry| entry.cell().same(cell))
 }
 
-// The cell of an entry that changes what a trail lists.
-fn touch(entry: Entry<Cell>, trail: &[Entry<Cell>]) -> Option<Cell>
-    ensures { result ≡ touch? trail.now entry }
+// The cell of an entry, if the event changed it.
+fn changed(entry: Entry<Cell>) -> Option<Cell>
+    ensures { result ≡ changed? entry }
 {
     match entry {
         Entry::Read(_) => None,
-        Entry::Changed(cell) => { if lists(trail, cell) { Some(cell) } else { None } }
+        Entry::Changed(cell) => Some(cell),
     }
 }
 
@@ -60,53 +65,36 @@ fn touch(entry: Entry<Cell>, trail: &[Entry<Cell>]) -> Option<Cell>
 fn hit(a: &[Entry<Cell>], b: &[Entry<Cell>]) -> Option<Cell>
     ensures { result ≡ hit? a.now b.now }
 {
-    for i in 0..a.len() {
-        if let Some(cell) = touch(a[i], b) {
-            return Some(cell);
-        }
-    }
-    None
+    a.iter()
+        .filter_map(|entry| changed(*entry))
+        .find(|cell| lists(b, *cell))
 }
 
 // A cell that one of two trails changes and the other lists.
 pub fn clash(a: &[Entry<Cell>], b: &[Entry<Cell>]) -> Option<Cell>
     ensures { result ≡ clash? a.now b.now }
 {
-    match hit(a, b) {
-        Some(cell) => Some(cell),
-        None => hit(b, a),
-    }
-}
-
-fn holds_from(order: &[usize], from: usize, x: usize) -> bool
-    ensures { result ≡ member? x (drop from order.now) }
-{
-    for i in from..order.len() {
-        if order[i] == x {
-            return true;
-        }
-    }
-    false
+    hit(a, b).or_else(|| hit(b, a))
 }
 
 fn before(order: &[usize], x: usize, y: usize) -> bool
     ensures { result ≡ before? x y order.now }
 {
-    for i in 0..order.len() {
-        if order[i] == x {
-            return holds_from(order, i + 1, y);
-        }
-    }
-    false
+    order
+        .iter()
+        .position(|k| *k == x)
+        .is_some_and(|i| order[i + 1..].contains(&y))
 }
 
 fn distinct(order: &[usize]) -> bool
     ensures { result ≡ distinct? order.now }
 {
-    for i in 0..order.len() {
-        if holds_from(order, i + 1, order[i]) {
+    let mut rest = order;
+    while let [k, later @ ..] = rest {
+        if later.contains(k) {
             return false;
         }
+        rest = later;
     }
     true
 }
@@ -114,50 +102,30 @@ fn distinct(order: &[usize]) -> bool
 fn within(order: &[usize], n: usize) -> bool
     ensures { result ≡ within? n order.now }
 {
-    for i in 0..order.len() {
-        if order[i] >= n {
-            return false;
-        }
-    }
-    true
+    order.iter().all(|k| *k < n)
 }
 
-fn every(order: &[usize], n: usize) -> bool
-    ensures all { result ≡ true → (i : ℕ) → i < n → member? i order.now ≡ true }
-    ensures missing { result ≡ false → ((i : ℕ) × (i < n) × (member? i order.now ≡ false)) }
-{
-    for i in 0..n {
-        if !holds_from(order, 0, i) {
-            return false;
-        }
-    }
-    true
-}
-
-// Whether `order` has each position below n once, and no other.
+// Whether `order` has each position below n once, and no other. With n of them below n and none twice, none is missing.
 pub fn is_order(order: &[usize], n: usize) -> bool
     ensures { Decides result (IsOrder n order.now) }
 {
-    if order.len() != n {
-        return false;
-    }
-    if !within(order, n) {
-        return false;
-    }
-    if !distinct(order) {
-        return false;
-    }
-    every(order, n)
+    order.len() == n && within(order, n) && distinct(order)
 }
 
-// A cell that the reports at the positions i and j clash on, where the order does not keep i before j.
-fn swap_of(order: &[usize], i: usize, j: usize, a: &Report, b: &Report) -> Option<Cell>
-    ensures { result ≡ swap? order.now i j a.now b.now }
+// The swap of the positions i and j, where their reports clash and the order does not keep i before j.
+fn swap_of(reports: &[Report], order: &[usize], i: usize, j: usize) -> Option<Swap>
+    requires first { i < length reports.now }
+    requires second { j < length reports.now }
+    ensures { MatchOption result (Fine reports.now order.now i j) (IsSwap reports.now order.now i j) }
 {
     if before(order, i, j) {
         return None;
     }
-    clash(a.entries(), b.entries())
+    clash(reports[i].entries(), reports[j].entries()).map(|cell| Swap {
+        first: i,
+        second: j,
+        cell,
+    })
 }
 
 // Report i against those after it.
@@ -165,27 +133,13 @@ fn swap_after(reports: &[Report], order: &[usize], i: usize) -> Option<Swap>
     requires { i < length reports.now }
     ensures { MatchOption result ((j : ℕ) → i < j → j < length reports.now → Fine reports.now order.now i j) (BrokenAfter reports.now order.now i) }
 {
-    for j in i + 1..reports.len() {
-        if let Some(cell) = swap_of(order, i, j, &reports[i], &reports[j]) {
-            return Some(Swap {
-                first: i,
-                second: j,
-                cell,
-            });
-        }
-    }
-    None
+    (i + 1..reports.len()).find_map(|j| swap_of(reports, order, i, j))
 }
 
 fn find_swap(reports: &[Report], order: &[usize]) -> Option<Swap>
     ensures { MatchOption result ((i j : ℕ) → i < j → j < length reports.now → Fine reports.now order.now i j) (Broken reports.now order.now) }
 {
-    for i in 0..reports.len() {
-        if let Some(swap) = swap_after(reports, order, i) {
-            return Some(swap);
-        }
-    }
-    None
+    (0..reports.len()).find_map(|i| swap_after(reports, order, i))
 }
 
 // Runs the events at the positions of `order`.
@@ -201,26 +155,8 @@ fn run_in<I: Card, O: Card>(
     ensures runs { Runs (length ram.old) (picked events.now order.now) (cells_of I.Card.lines O.Card.lines machine.old ram.old) (take (length order.now) reports.new) (cells_of I.Card.lines O.Card.lines machine.new ram.new) }
     ensures rest { drop (length order.now) reports.new ≡ drop (length order.now) reports.old }
 {
-    for i in 0..order.len() {
-        reports[i] = apply(machine, ram, events[order[i]]);
-    }
-}
-
-// Runs the events as they stand, where there is room for their reports.
-fn run_all<I: Card, O: Card>(
-    machine: &mut Machine<I, O>,
-    ram: &mut [u16],
-    events: &[Event],
-    reports: &mut [Report],
-)
-    requires { length events.now ≤ length reports.old }
-    ensures runs { Runs (length ram.old) events.now (cells_of I.Card.lines O.Card.lines machine.old ram.old) (take (length events.now) reports.new) (cells_of I.Card.lines O.Card.lines machine.new ram.new) }
-    ensures rest { drop (length events.now) reports.new ≡ drop (length events.now) reports.old }
-    ensures order { AnyOrder (length ram.old) events.now (cells_of I.Card.lines O.Card.lines machine.old ram.old) (take (length events.now) reports.new) (cells_of I.Card.lines O.Card.lines machine.new ram.new) }
-{
-    match run(machine, ram, events, reports) {
-        Ok(()) => {}
-        Err(NoRoom) => {}
+    for (k, position) in order.iter().enumerate() {
+        reports[k] = apply(machine, ram, events[*position]);
     }
 }
 
@@ -241,10 +177,7 @@ pub fn rehearse<I: Card, O: Card, J: Card, P: Card>(
     ensures second { MatchResult result (λ _. Runs (length ram2.old) (picked events.now order.now) (cells_of J.Card.lines P.Card.lines second.old ram2.old) (take (length events.now) reports2.new) (cells_of J.Card.lines P.Card.lines second.new ram2.new) × (drop (length events.now) reports2.new ≡ drop (length events.now) reports2.old)) (λ _. (second.new ≡ second.old) × (ram2.new ≡ ram2.old) × (reports2.new ≡ reports2.old)) }
     ensures alike { OnOk result (Taken order.now (take (length events.now) reports1.new) (take (length events.now) reports2.new) × Same (cells_of I.Card.lines O.Card.lines first.new ram1.new) (cells_of J.Card.lines P.Card.lines second.new ram2.new)) }
 {
-    if reports1.len() < events.len() {
-        return Err(Objection::NoRoom);
-    }
-    if reports2.len() < events.len() {
+    if reports1.len() < events.len() || reports2.len() < events.len() {
         return Err(Objection::NoRoom);
     }
     if !is_order(order, events.len()) {
@@ -253,8 +186,8 @@ pub fn rehearse<I: Card, O: Card, J: Card, P: Card>(
     if !first.same_cells(ram1, second, ram2) {
         return Err(Objection::OtherStart);
     }
-    run_all(first, ram1, events, reports1);
-    if let Some(swap) = find_swap(&reports1[0..events.len()], order) {
+    run(first, ram1, events, reports1)?;
+    if let Some(swap) = find_swap(&reports1[..events.len()], order) {
         return Err(Objection::Swaps(swap));
     }
     run_in(second, ram2, events, order, reports2);

@@ -1,20 +1,34 @@
-use Rattle.std.proofs.Common.{◌+◌, Bool, cond, drop, sym, ap, ◌∙◌, eq-eqb, ne_eqb}
+use Rattle.std.proofs.Common.{◌≡◌, ◌≢◌, ℕ, zero, suc, ◌+◌, ◌<◌, false, Bool, cond, List, [], ◌∷◌, length, drop, Option, Some, None, MatchOption, rules, tests, arith, sym, ap, ◌∙◌, refl, eq-eqb, ne_eqb, add-one, not-suc-le-zero}
+use Rattle.std.specs.List.{HoldsAt, AllWithin}
+use Rattle.std.proofs.lemmas.Grind.{common_steps}
+use Rattle.std.proofs.lemmas.Iterator.{IsFirst-from_position, YieldsList-from_slice}
 use Rattle.rehearsal.specs.Tests.{member?, before?}
-use Rattle.rehearsal.proofs.Scans.{on, off}
 use Rattle.rehearsal.proofs.before.Goals as goal
 
-pub returns-then-order-i : goal.returns-then-order-i
-returns-then-order-i c =
-    let rest = drop (c.loop-i.i + 1) c.args.order.now in
-    c.holds_from.ensures
-    ∙ sym (on (before? c.args.x c.args.y) c.args.order.now c.loop-i.i _ c.loop-i.invariant 0 c.loop-i-test.true
-    ∙ ap (λ (z : Bool). cond z (member? c.args.y rest) (before? c.args.x c.args.y rest)) (eq-eqb _ _ c.if-order-i.true))
+module _ (x y : ℕ) where
+  first : (p : List ℕ) (i : ℕ) → i < length p → HoldsAt (λ k. k ≡ x) p i → AllWithin (λ k. k ≢ x) p 0 i → before? x y p ≡ member? y (drop (i + 1) p)
+  first [] i h e n = absurd (not-suc-le-zero h)
+  first (k ∷ p) zero h e n = ap (λ (z : Bool). cond z (member? y p) (before? x y p)) (eq-eqb k x (e 0))
+  first (k ∷ p) (suc i) h e n =
+      rw add-one
+      (ap (λ (z : Bool). cond z (member? y p) (before? x y p)) (ne_eqb k x (n 0 0 (omega arith) (omega arith)))
+      ∙ rw add-one at (first p i (omega arith) e (λ j d l m. n (suc j) d (omega arith) (omega arith))))
 
-pub loop-i-preserved : goal.loop-i-preserved
-loop-i-preserved c =
-    let rest = drop (c.loop-i.i + 1) c.args.order.now in
-    on (before? c.args.x c.args.y) c.args.order.now c.loop-i.i _ c.loop-i.invariant 0 c.loop-i-test.true
-    ∙ ap (λ (z : Bool). cond z (member? c.args.y rest) (before? c.args.x c.args.y rest)) (ne_eqb _ _ c.if-order-i.false)
+  none : (p : List ℕ) → AllWithin (λ k. k ≢ x) p 0 (length p) → before? x y p ≡ false
+  none [] n = refl
+  none (k ∷ p) n =
+      ap (λ (z : Bool). cond z (member? y p) (before? x y p)) (ne_eqb k x (n 0 0 (omega arith) (omega arith)))
+      ∙ none p (λ j d l m. n (suc j) d (omega arith) (omega arith))
+
+  both : (p : List ℕ) (o : Option ℕ) (b : Bool) (Later : ℕ → Type 0)
+      → MatchOption o (AllWithin (λ k. k ≢ x) p 0 (length p)) (λ i. (i < length p) × HoldsAt (λ k. k ≡ x) p i × AllWithin (λ k. k ≢ x) p 0 i)
+      → MatchOption o (b ≡ false) Later → ((i : ℕ) → Later i → b ≡ member? y (drop (i + 1) p)) → b ≡ before? x y p
+  both p None b Later h e f = e ∙ sym (none p h)
+  both p (Some i) b Later h e f = f i e ∙ sym (first p i h.0 h.1 h.2)
 
 pub returns : goal.returns
-returns c = sym (off (before? c.args.x c.args.y) c.args.order.now c.loop-i.i _ c.loop-i.invariant c.loop-i-test.false)
+returns c =
+    let p = c.args.order.now in
+    both c.args.x c.args.y p c.position.result c.is_some_and.result _
+    (IsFirst-from_position _ _ _ (λ k. k ≡ c.args.x) (λ k. k ≢ c.args.x) c.position.ensures.ran (YieldsList-from_slice p cc) (λ k q h. search (rules, tests)) (λ k q h. search (rules, tests)))
+    c.is_some_and.ensures (λ i h. grind (arith, common_steps))

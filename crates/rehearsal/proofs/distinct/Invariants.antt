@@ -1,6 +1,9 @@
-use Rattle.std.proofs.Common.{◌≡◌, drop}
+use Rattle.std.proofs.Common.{◌≡◌, length}
 use Rattle.rehearsal.specs.Tests.{distinct?}
 use Rattle.rehearsal.proofs.distinct.Given as goal
 
-abbrev pub invariant-loop-i : goal.invariant-loop-i
-invariant-loop-i l = distinct? l.order ≡ distinct? (drop l.i l.order)
+abbrev pub invariant-loop-rest : goal.invariant-loop-rest
+invariant-loop-rest l = distinct? l.order ≡ distinct? l.rest
+
+abbrev pub decreases-loop-rest : goal.decreases-loop-rest
+decreases-loop-rest l = length l.rest
