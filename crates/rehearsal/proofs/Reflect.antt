@@ -1,13 +1,10 @@
 -- What the tests say, in the words of the law.
-use Rattle.std.proofs.Common.{◌≡◌, ℕ, zero, suc, ◌+◌, ◌<◌, ◌≤◌, Bool, true, false, cond, not, ◌&&◌, ◌==◌, eqb, ltb, ◌⊎◌, List, [], ◌∷◌, map, length, get_or, take, set, Some, None, Ok, Option, Decides, MatchOption, sym, refl, subst, ap₂, inl, inr, le_of_suc-le-suc, not-suc-le-zero, add-one, arith, take-suc, take-suc-set, ne_eqb}
+use Rattle.std.proofs.Common.{◌≡◌, ℕ, zero, suc, ◌+◌, ◌<◌, Bool, true, false, ◌&&◌, ◌==◌, eqb, ltb, ◌⊎◌, List, [], ◌∷◌, map, length, get_or, take, set, Some, None, Ok, Decides, MatchOption, sym, refl, subst, ap₂, inl, inr, add-one, arith, take-suc, take-suc-set}
 use Rattle.std.specs.List.{list_any, IsDistinct, AllByRecursion}
-use Rattle.std.specs.Option.{option_or}
-use Rattle.std.proofs.lemmas.Bool.{false≢true}
-use Rattle.std.proofs.lemmas.Bool.Decides.{Decides-eqb, Decides-ltb, Decides-and, Decides-or, Decides-not, Decides-like, not_from_Decides}
+use Rattle.std.proofs.lemmas.Bool.Decides.{Decides-eqb, Decides-ltb, Decides-and, Decides-or, Decides-like, not_from_Decides, nat_tests}
 use Rattle.std.proofs.lemmas.List.{get_or_default}
-use Rattle.std.proofs.lemmas.Map.Keys.{IsDistinct-cons}
 use Rattle.std.proofs.lemmas.Map.Steps.{length-le_from_distinct_below}
-use Rattle.std.proofs.lemmas.Option.{none-some, MatchOption-at_none, MatchOption-at_some}
+use Rattle.std.proofs.lemmas.Option.{MatchOption-at_some}
 use mathlib.Core.List.{map-append}
 use mathlib.Core.Option.{some}
 use Rattle.law.specs.declared.Entry.{Entry}
@@ -30,176 +27,100 @@ use Rattle.events.specs.Events.{tree, told, Does}
 use Rattle.events.specs.Rows.{Runs, AnyOrder}
 use Rattle.events.proofs.Lawful.{runs_more}
 use Rattle.rehearsal.specs.declared.Swap.{Swap}
-use Rattle.rehearsal.specs.Tests.{lists?, hit?, clash?, member?, before?, distinct?, within?, swap?, Fine, Broken, BrokenAfter}
+use Rattle.rehearsal.specs.Tests.{lists?, hit?, clash?, member?, before?, distinct?, within?, swap?, Fine, IsSwap, Broken, BrokenAfter}
 use Rattle.rehearsal.specs.Rehearsals.{IsOrder, picked, Within, Swapped}
 
 -- positions
+in_is : (t : ℕ → Bool) (i : ℕ) → ((k : ℕ) → Decides (t k) (i ≡ k)) → (p : List ℕ) → Decides (list_any t p) (In i p)
+in_is t i same [] = grind arith
+in_is t i same (k ∷ p) = Decides-or (t k) (list_any t p) (same k) (in_is t i same p)
+
 member_is : (i : ℕ) (p : List ℕ) → Decides (member? i p) (In i p)
-member_is i [] = (λ e. absurd (false≢true e), λ h. absurd h)
-member_is i (k ∷ p) = Decides-or (eqb k i) (member? i p) (Decides-like (eqb k i) sym sym (Decides-eqb k i)) (member_is i p)
+member_is i p = in_is (λ k. k == i) i (λ k. Decides-like (k == i) sym sym (Decides-eqb k i)) p
 
 before_left : (i j : ℕ) (p : List ℕ) → Before i j p → In i p
-before_left i j [] h = h
-before_left i j (k ∷ p) (inl q) = inl q.0
-before_left i j (k ∷ p) (inr h) = inr (before_left i j p h)
+before_left i j [] = grind arith
+before_left i j (k ∷ p) = grind (arith, before_left i j p)
 
 before_is : (i j : ℕ) (p : List ℕ) → Distinct p → Decides (before? i j p) (Before i j p)
-before_is i j [] d = (λ e. absurd (false≢true e), λ h. absurd h)
-before_is i j (k ∷ p) d = by (eqb k i) (Decides-eqb k i) (before_is i j p d.1)
-  where
-    here : k ≡ i → Before i j (k ∷ p) → In j p
-    here e (inl q) = q.1
-    here e (inr h) = absurd (d.0 (subst (λ (y : ℕ). In y p) (sym e) (before_left i j p h)))
-
-    further : (k ≡ i → ⊥) → Before i j (k ∷ p) → Before i j p
-    further n (inl q) = absurd (n (sym q.0))
-    further n (inr h) = h
-
-    by : (z : Bool) → Decides z (k ≡ i) → Decides (before? i j p) (Before i j p) → Decides (cond z (member? j p) (before? i j p)) (Before i j (k ∷ p))
-    by true e r = Decides-like (member? j p) (λ h. inl (sym (e.0 refl), h)) (here (e.0 refl)) (member_is j p)
-    by false e r = Decides-like (before? i j p) inr (further (not_from_Decides false e refl)) r
+before_is i j [] d = grind arith
+before_is i j (k ∷ p) d = grind (arith, nat_tests, member_is j p, before_is i j p, before_left i j p)
 
 distinct_is : (p : List ℕ) → Decides (distinct? p) (Distinct p)
-distinct_is [] = (λ e. tt, λ h. refl)
-distinct_is (k ∷ p) = Decides-and (not (member? k p)) (distinct? p) (Decides-not (member? k p) (member_is k p)) (distinct_is p)
+distinct_is [] = grind arith
+distinct_is (k ∷ p) = grind (arith, member_is k p, distinct_is p)
 
 within_is : (n : ℕ) (p : List ℕ) → Decides (within? n p) ((i : ℕ) → In i p → i < n)
-within_is n [] = (λ e i h. absurd h, λ h. refl)
-within_is n (k ∷ p) = Decides-like (within? n (k ∷ p)) each (λ h. (h k (inl refl), λ i z. h i (inr z))) (Decides-and (ltb k n) (within? n p) (Decides-ltb k n) (within_is n p))
-  where
-    each : (k < n) × ((i : ℕ) → In i p → i < n) → (i : ℕ) → In i (k ∷ p) → i < n
-    each h i (inl e) = omega (arith, h.0)
-    each h i (inr z) = h.1 i z
+within_is n [] = grind arith
+within_is n (k ∷ p) = Decides-like (within? n (k ∷ p)) (λ h i. grind (arith, h.1 i)) (λ h. (grind (arith, h k), λ i. grind (arith, h i))) (Decides-and (ltb k n) (within? n p) (Decides-ltb k n) (within_is n p))
 
--- nothing is missing, where as many numbers as there are below n are below n, and none stands twice
+-- nothing is missing, where there are n numbers, all below n, and none stands twice
 apart : (p : List ℕ) → Distinct p → IsDistinct eqb p
 unfolding IsDistinct
 apart [] h = tt
-apart (k ∷ p) h = IsDistinct-cons eqb k p (others p h.0) (apart p h.1)
+apart (k ∷ p) h = (others p h.0, apart p h.1)
   where
     others : (q : List ℕ) → ¬ In k q → AllByRecursion (λ y. eqb k y ≡ false) q
     others [] n = tt
-    others (x ∷ q) n = (ne_eqb k x (λ e. n (inl e)), others q (λ z. n (inr z)))
-
-any_is : (i : ℕ) (p : List ℕ) → Decides (list_any (eqb i) p) (In i p)
-any_is i [] = (λ e. absurd (false≢true e), λ h. absurd h)
-any_is i (k ∷ p) = Decides-or (eqb i k) (list_any (eqb i) p) (Decides-eqb i k) (any_is i p)
+    others (x ∷ q) n = grind (arith, nat_tests, others q)
 
 none_missing : (n : ℕ) (p : List ℕ) → length p ≡ n → Distinct p → ((i : ℕ) → In i p → i < n) → (i : ℕ) → i < n → In i p
 none_missing n p l d w i h = by (member? i p) (member_is i p)
   where
-    each : (q : ℕ) → In q (i ∷ p) → q < n
-    each q (inl e) = omega arith
-    each q (inr z) = w q z
+    below : (q : ℕ) → In q (i ∷ p) → q < n
+    below q = grind (arith, w q)
 
     by : (z : Bool) → Decides z (In i p) → In i p
     by true e = e.0 refl
     by false e =
-        let new : Distinct (i ∷ p) = (not_from_Decides false e refl, d) in
-        let few : length (i ∷ p) ≤ n = length-le_from_distinct_below (i ∷ p) n (apart (i ∷ p) new) (λ q h. each q ((any_is q (i ∷ p)).0 h)) in
-        absurd (omega (arith, l, few))
+        let more : Distinct (i ∷ p) = (not_from_Decides false e refl, d) in
+        absurd (omega (arith, l, length-le_from_distinct_below (i ∷ p) n (apart (i ∷ p) more) (λ q h. below q ((in_is (eqb q) q (Decides-eqb q) (i ∷ p)).0 h))))
 
 pub order_decided : (n : ℕ) (p : List ℕ) → Decides (length p == n && within? n p && distinct? p) (IsOrder n p)
 order_decided n p =
-    Decides-like _ to from (Decides-and (length p == n && within? n p) (distinct? p) (Decides-and (length p == n) (within? n p) (Decides-eqb (length p) n) (within_is n p)) (distinct_is p))
-  where
-    to : ((length p ≡ n) × ((i : ℕ) → In i p → i < n)) × Distinct p → IsOrder n p
-    to h = record { long = h.0.0; order = record { once = h.1; every = none_missing n p h.0.0 h.1 h.0.1; no_other = h.0.1 } }
-
-    from : IsOrder n p → ((length p ≡ n) × ((i : ℕ) → In i p → i < n)) × Distinct p
-    from o = ((o.long, o.order.no_other), o.order.once)
+    Decides-like _
+    (λ h. record { long = h.0.0; order = record { once = h.1; every = none_missing n p h.0.0 h.1 h.0.1; no_other = h.0.1 } })
+    (λ o. ((o.long, o.order.no_other), o.order.once))
+    (Decides-and (length p == n && within? n p) (distinct? p) (Decides-and (length p == n) (within? n p) (Decides-eqb (length p) n) (within_is n p)) (distinct_is p))
 
 -- cells that trails list
 same_is : (c x : Cell) → Decides (same c x) (c ≡ x)
 same_is c x = (cells_told.equal c x, λ e. rw e (cells_told.itself x))
 
 listed : (x : Cell) (b : List (Entry Cell)) → Decides (lists? x b) (Lists x b)
-listed x [] = (λ e. absurd (false≢true e), none)
-  where
-    none : ⊥ ⊎ ⊥ → false ≡ true
-    none (inl z) = absurd z
-    none (inr z) = absurd z
-listed x (Read c ∷ b) = Decides-like (lists? x (Read c ∷ b)) to from (Decides-or (same c x) (lists? x b) (same_is c x) (listed x b))
-  where
-    to : (c ≡ x) ⊎ Lists x b → Lists x (Read c ∷ b)
-    to (inl e) = inl (inl e)
-    to (inr (inl h)) = inl (inr h)
-    to (inr (inr h)) = inr h
-
-    from : Lists x (Read c ∷ b) → (c ≡ x) ⊎ Lists x b
-    from (inl (inl e)) = inl e
-    from (inl (inr h)) = inr (inl h)
-    from (inr h) = inr (inr h)
-listed x (Changed c ∷ b) = Decides-like (lists? x (Changed c ∷ b)) to from (Decides-or (same c x) (lists? x b) (same_is c x) (listed x b))
-  where
-    to : (c ≡ x) ⊎ Lists x b → Lists x (Changed c ∷ b)
-    to (inl e) = inr (inl e)
-    to (inr (inl h)) = inl h
-    to (inr (inr h)) = inr (inr h)
-
-    from : Lists x (Changed c ∷ b) → (c ≡ x) ⊎ Lists x b
-    from (inl h) = inr (inl h)
-    from (inr (inl e)) = inl e
-    from (inr (inr h)) = inr (inr h)
+listed x [] = grind arith
+listed x (Read c ∷ b) = grind (arith, same_is c x, listed x b)
+listed x (Changed c ∷ b) = grind (arith, same_is c x, listed x b)
 
 -- a hit is a change of a listed cell, and where there is none nothing that is changed is listed
-abbrev Hits : List (Entry Cell) → List (Entry Cell) → Option Cell → Type 0
-Hits a b o = MatchOption o ((x : Cell) → Changes x a → ¬ Lists x b) (λ x. Changes x a × Lists x b)
-
-hit_is : (a b : List (Entry Cell)) → Hits a b (hit? a b)
-hit_is [] b = λ x h. absurd h
+hit_is : (a b : List (Entry Cell)) → MatchOption (hit? a b) ((x : Cell) → Changes x a → ¬ Lists x b) (λ x. Changes x a × Lists x b)
+hit_is [] b = grind arith
 hit_is (Read c ∷ a) b = hit_is a b
-hit_is (Changed c ∷ a) b = by (lists? c b) (listed c b) (hit? a b) (hit_is a b)
-  where
-    by : (z : Bool) → Decides z (Lists c b) → (o : Option Cell) → Hits a b o → Hits (Changed c ∷ a) b (cond z (Some c) o)
-    by true e o h = (inl refl, e.0 refl)
-    by false e (Some y) h = (inr h.0, h.1)
-    by false e None h = none
-      where
-        none : (x : Cell) → (c ≡ x) ⊎ Changes x a → ¬ Lists x b
-        none x (inl q) l = not_from_Decides false e refl (subst (λ (y : Cell). Lists y b) (sym q) l)
-        none x (inr z) l = h x z l
+hit_is (Changed c ∷ a) b = grind (arith, listed c b, hit_is a b)
 
 clash_is : (a b : List (Entry Cell)) → MatchOption (clash? a b) (¬ Clash a b) (λ x. (Changes x a × Lists x b) ⊎ (Lists x a × Changes x b))
-clash_is a b = by (hit? a b) (hit_is a b) (hit? b a) (hit_is b a)
-  where
-    by : (o : Option Cell) → Hits a b o → (p : Option Cell) → Hits b a p → MatchOption (option_or o p) (¬ Clash a b) (λ x. (Changes x a × Lists x b) ⊎ (Lists x a × Changes x b))
-    by (Some x) h p k = inl h
-    by None h (Some x) k = inr (k.1, k.0)
-    by None h None k = λ c. none c.0 c.1
-      where
-        none : (x : Cell) → (Changes x a × Lists x b) ⊎ (Lists x a × Changes x b) → ⊥
-        none x (inl z) = h x z.0 z.1
-        none x (inr z) = k x z.1 z.0
+clash_is a b = grind (arith, hit_is a b, hit_is b a)
 
 -- reports at positions
 at_told : (rs : List Report) (i : ℕ) (a : Told Cell Answer Refusal) (d : Report) → at (map told rs) i ≡ some a → (i < length rs) × (a ≡ told (get_or rs i d))
-at_told [] i a d h = let z : ◌≡◌ {A = ℕ} 0 1 = cc in absurd (omega arith)
+at_told [] i a d h = absurd cc
 at_told (r ∷ rs) zero a d h = (omega arith, cc)
-at_told (r ∷ rs) (suc i) a d h = let q = at_told rs i a d h in let l : i < length rs = q.0 in (omega arith, q.1)
+at_told (r ∷ rs) (suc i) a d h = let q = at_told rs i a d h in (omega (arith, q.0), q.1)
 
 told_at : (rs : List Report) (i : ℕ) (d : Report) → i < length rs → at (map told rs) i ≡ some (told (get_or rs i d))
-told_at [] i d h = absurd (not-suc-le-zero h)
+told_at [] i d h = grind arith
 told_at (r ∷ rs) zero d h = refl
-told_at (r ∷ rs) (suc i) d h = told_at rs i d (le_of_suc-le-suc h)
+told_at (r ∷ rs) (suc i) d h = told_at rs i d (omega arith)
 
 blank : Report
 blank = record { end = Ok Done; count = 0; trail = [] }
 
 module _ (p : List ℕ) (d : Distinct p) (i j : ℕ) (a b : Report) where
   fine_before : swap? p i j a b ≡ None → Clash (told a).trail (told b).trail → Before i j p
-  fine_before h c = by (before? i j p) refl h
-    where
-      by : (z : Bool) → before? i j p ≡ z → cond z None (clash? (told a).trail (told b).trail) ≡ None → Before i j p
-      by true q h = (before_is i j p d).0 q
-      by false q h = absurd (MatchOption-at_none _ _ h (clash_is (told a).trail (told b).trail) c)
+  fine_before h c = grind (arith, before_is i j p d, clash_is (told a).trail (told b).trail)
 
   swap_is : (x : Cell) → swap? p i j a b ≡ Some x → (¬ Before i j p) × (clash? (told a).trail (told b).trail ≡ Some x)
-  swap_is x h = by (before? i j p) (before_is i j p d) h
-    where
-      by : (z : Bool) → Decides z (Before i j p) → cond z None (clash? (told a).trail (told b).trail) ≡ Some x → (¬ Before i j p) × (clash? (told a).trail (told b).trail ≡ Some x)
-      by true e h = absurd (none-some x h)
-      by false e h = (not_from_Decides false e refl, h)
+  swap_is x h = grind (arith, before_is i j p d)
 
 pub keeps_is : (rs : List Report) (p : List ℕ) → Distinct p → ((i j : ℕ) → i < j → j < length rs → Fine rs p i j) → KeepsClashes (map told rs) p
 keeps_is rs p d h i j a b l pa pb c =
@@ -229,36 +150,27 @@ swapped_is {rs = rs} {p = p} {w = w} d b =
   where
     earlier : (i j : ℕ) → i < j → j < length rs → (i < w.first) ⊎ ((i ≡ w.first) × (j < w.second)) → Fine rs p i j
     earlier i j l m (inl h) = b.before i j h l m
-    earlier i j l m (inr h) =
-        subst (λ (k : ℕ). Fine rs p k j) (sym h.0) (b.between j (subst (λ (k : ℕ). k < j) h.0 l) h.1)
+    earlier i j l m (inr h) = rw h.0 (b.between j (rw h.0 at l) h.1)
+
+-- the first pair of those whose earlier position is i, from the first with a later position that was reached
+pub after_at : {rs : List Report} {p : List ℕ} {i j : ℕ} {w : Swap} → IsSwap rs p i j w → i < j → j < length rs
+    → ((k : ℕ) → i < k → k < j → Fine rs p i k) → BrokenAfter rs p i w
+after_at {rs = rs} {p = p} {i = i} {w = w} h l m inv =
+    let q = subst (λ (k : ℕ). IsSwap rs p i k w × (i < k) × (k < length rs) × ((a : ℕ) → i < a → a < k → Fine rs p i a)) (sym h.1) (h, l, m, inv) in
+    record { here = h.0; early = q.1; there = q.2; swaps = q.0.2; between = q.3 }
 
 -- the first pair of all, from the first with an earlier position that was reached
 pub broken_at : {rs : List Report} {p : List ℕ} {i : ℕ} {w : Swap} → BrokenAfter rs p i w
     → ((a : ℕ) → a < i → (b : ℕ) → a < b → b < length rs → Fine rs p a b) → Broken rs p w
-broken_at {rs = rs} {p = p} {i = i} {w = w} b inv =
-    let e : i ≡ w.first = sym b.here in
-    record {
-      early = subst (λ (k : ℕ). k < w.second) e b.early;
-      there = b.there;
-      swaps = subst (λ (k : ℕ). (d : Report) → swap? p k w.second (get_or rs k d) (get_or rs w.second d) ≡ Some w.cell) e b.swaps;
-      before = subst (λ (k : ℕ). (a c : ℕ) → a < k → a < c → c < length rs → Fine rs p a c) e (λ a c h l m. inv a h c l m);
-      between = subst (λ (k : ℕ). (j : ℕ) → k < j → j < w.second → Fine rs p k j) e b.between;
-    }
-
--- what was said of two reports that were read
-pub fine_read : (rs : List Report) (p : List ℕ) (i j : ℕ) (d e : Report) → i < length rs → j < length rs
-    → None ≡ swap? p i j (get_or rs i d) (get_or rs j e) → Fine rs p i j
-fine_read rs p i j d e hi hj q f = rw (get_or_default rs i f d hi, get_or_default rs j f e hj) (sym q)
-
-pub broken_read : (rs : List Report) (p : List ℕ) (i j : ℕ) (d e : Report) (x : Cell) → i < length rs → j < length rs
-    → Some x ≡ swap? p i j (get_or rs i d) (get_or rs j e) → (f : Report) → swap? p i j (get_or rs i f) (get_or rs j f) ≡ Some x
-broken_read rs p i j d e x hi hj q f = rw (get_or_default rs i f d hi, get_or_default rs j f e hj) (sym q)
+broken_at {rs = rs} {p = p} {w = w} b inv =
+    let q = subst (λ (k : ℕ). BrokenAfter rs p k w × ((a : ℕ) → a < k → (c : ℕ) → a < c → c < length rs → Fine rs p a c)) (sym b.here) (b, inv) in
+    record { early = q.0.early; there = q.0.there; swaps = q.0.swaps; before = λ a c h l m. q.1 a h c l m; between = q.0.between }
 
 -- events at positions
 at_get : {X : Type 0} (xs : List X) (i : ℕ) (d : X) → i < length xs → some (get_or xs i d) ≡ at xs i
-at_get [] i d h = absurd (not-suc-le-zero h)
+at_get [] i d h = grind arith
 at_get (x ∷ xs) zero d h = refl
-at_get (x ∷ xs) (suc i) d h = at_get xs i d (le_of_suc-le-suc h)
+at_get (x ∷ xs) (suc i) d h = at_get xs i d (omega arith)
 
 nothing : Event
 nothing = record { ask = Tick; room = 0 }
@@ -269,9 +181,9 @@ taken_picked events [] h = refl
 taken_picked events (i ∷ p) h = ap₂ ◌∷◌ (at_get events i nothing (h i (inl refl))) (taken_picked events p (λ k z. h k (inr z)))
 
 get_in : (p : List ℕ) (k : ℕ) → k < length p → In (get_or p k 0) p
-get_in [] k h = absurd (not-suc-le-zero h)
+get_in [] k h = grind arith
 get_in (x ∷ p) zero h = inl refl
-get_in (x ∷ p) (suc k) h = inr (get_in p k (le_of_suc-le-suc h))
+get_in (x ∷ p) (suc k) h = inr (get_in p k (omega arith))
 
 pub order_within : {n : ℕ} {p : List ℕ} → IsOrder n p → Within n p
 order_within {n = n} {p = p} o k h = o.order.no_other (get_or p k 0) (get_in p k h)
