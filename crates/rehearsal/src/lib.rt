@@ -142,7 +142,8 @@ fn find_swap(reports: &[Report], order: &[usize]) -> Option<Swap>
     (0..reports.len()).find_map(|i| swap_after(reports, order, i))
 }
 
-// Runs the events at the positions of `order`.
+// Runs the events at the positions of `order`. The reports are written by their places: of what a zip over `iter_mut`
+// wrote, a proof knows nothing.
 fn run_in<I: Card, O: Card>(
     machine: &mut Machine<I, O>,
     ram: &mut [u16],
@@ -162,6 +163,7 @@ fn run_in<I: Card, O: Card>(
 
 // Runs the events on the first machine as they stand and, if the order keeps every clashing pair, on the second in that
 // order. Then each event has the same report on both, and all cells end equal: nothing is compared to find that out.
+// The parameters stay apart, since a struct of a machine, its RAM and its reports would only lend the three once more.
 pub fn rehearse<I: Card, O: Card, J: Card, P: Card>(
     first: &mut Machine<I, O>,
     ram1: &mut [u16],
