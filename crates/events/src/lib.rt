@@ -35,7 +35,7 @@ pub struct Event {
 }
 
 // What an event came to: its answer or refusal, and its trail up to the count, in an array, since no event allocates.
-#[derive(Clone, Copy)]
+#[derive(Clone, Copy, PartialEq, Eq, Debug)]
 pub struct Report {
     pub end: Result<Answer, Refusal>,
     pub count: usize,
