@@ -22,7 +22,8 @@ impl<C: Copy> Entry<C> {
         }
     }
 
-    // How the cell was touched, as a number: 0 if it was read, 1 if it was changed.
+    // How the cell was touched, as a number: 0 if it was read, 1 if it was changed. By a match, since variants that hold a
+    // cell have no discriminants.
     pub fn touch_number(self) -> u16
         ensures { result ≡ touch_number self }
     {
