@@ -6,7 +6,7 @@ ghost use Rattle.cards.specs.Flips.{flipped, low_lines, flipped_line};
 use super::{Card, LINES};
 
 // Line n is line n of the card below, flipped if the mask has true at n.
-#[derive(Clone, PartialEq, Eq, Debug, Drop)]
+#[derive(Drop)]
 pub struct ActiveLow<C> {
     below: C,
     mask: [bool; 256],

@@ -3,11 +3,10 @@ ghost use Rattle.std.specs.Prelude.{◌≡◌, ◌<◌, length, slice_index, ⊤
 ghost use Rattle.cards.specs.Contacts.{OneToOne, after_exchange, exchange_told, straight};
 
 use super::{CardRefusal, LINES};
-use std::alloc::AllocError;
 use std::array;
 
 // The contact of line n is to[n]. No two lines have one contact.
-#[derive(PartialEq, Eq, Debug, Drop)]
+#[derive(Drop)]
 pub struct Contacts {
     to: [u8; 256],
     ghost size: { length to ≡ 256 },
@@ -43,16 +42,5 @@ impl Contacts {
         } else {
             Err(CardRefusal::NoSuchLine)
         }
-    }
-}
-
-// Written out, since Clone is not derived for a struct with ghost fields.
-impl Clone for Contacts {
-    ghost is_clone = { λ x y. y ≡ x };
-
-    ghost is_infallible = { λ _. ⊤ };
-
-    fn clone(&self) -> Result<Contacts, AllocError> {
-        Ok(Contacts { to: self.to })
     }
 }

@@ -8,7 +8,7 @@ use super::contacts::Contacts;
 use super::{Card, CardRefusal, LINES};
 
 // Line n is that line of the card below which is n's contact.
-#[derive(Clone, PartialEq, Eq, Debug, Drop)]
+#[derive(Drop)]
 pub struct Crossing<C> {
     below: C,
     contacts: Contacts,

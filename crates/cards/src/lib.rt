@@ -44,7 +44,7 @@ impl CardRefusal {
 }
 
 // One bit a line: line n is bit n % 8 of byte n / 8.
-#[derive(Clone, PartialEq, Eq, Debug, Drop)]
+#[derive(Drop)]
 pub struct Packed {
     bytes: [u8; 32],
 }

@@ -6,7 +6,7 @@ ghost use Rattle.cards.specs.Lines.{all_off, length_lines};
 use super::{Card, CardRefusal, LINES};
 
 // A 32-bit count of switchings for each line, which wraps. A line with an odd count is on.
-#[derive(Clone, PartialEq, Eq, Debug, Drop)]
+#[derive(Drop)]
 pub struct Wear {
     counts: [u32; 256],
 }

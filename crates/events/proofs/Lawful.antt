@@ -1,6 +1,7 @@
 -- Runs of events a step at a time, and the law of order for a run.
-use Rattle.std.proofs.Common.{◌≡◌, ℕ, zero, suc, ◌+◌, ◌<◌, List, [], ◌∷◌, ◌++◌, map, length, get_or, take, drop, set, sym, refl, ap, ◌∙◌, subst, ap₂, arith, drop-set-lt}
-use Rattle.std.proofs.Math.Option.{Option, some, map as map_option}
+use Rattle.std.proofs.Common.{Some, Option, ◌≡◌, ℕ, zero, suc, ◌+◌, ◌<◌, List, [], ◌∷◌, ◌++◌, map, length, get_or, take, drop, set, sym, refl, ap, ◌∙◌, subst, ap₂, arith, drop-set-lt}
+use Rattle.std.specs.Option.{option_map}
+use Rattle.std.proofs.lemmas.Option.{slice_get-map}
 use Rattle.std.proofs.Math.Seq.{take-append_seam}
 use Rattle.std.proofs.lemmas.Grind.{drop_more_same}
 use Rattle.std.proofs.lemmas.List.{map_push, length-map, take-map, take_more, take_more_set}
@@ -72,16 +73,10 @@ depends_each (e ∷ es) s = (
 )
 
 -- what is taken in an order, after a function
-module _ {X Y : Type 0} (f : X → Y) where
-  at_map : (xs : List X) (n : ℕ) → map_option f (at xs n) ≡ at (map f xs) n
-  at_map [] n = refl
-  at_map (x ∷ xs) zero = refl
-  at_map (x ∷ xs) (suc n) = at_map xs n
-
-  taken_map : (p : List ℕ) (xs ys : List X) → Taken p xs ys → Taken p (map f xs) (map f ys)
-  taken_map p xs ys h =
-      map-map some f ys ∙ sym (map-map (map_option f) some ys) ∙ ap (map (map_option f)) h
-      ∙ map-map (map_option f) (at xs) p ∙ ap (λ (g : ℕ → Option Y). map g p) (fun_ext (at_map xs))
+taken_map : {X Y : Type 0} (f : X → Y) (p : List ℕ) (xs ys : List X) → Taken p xs ys → Taken p (map f xs) (map f ys)
+taken_map {X} {Y} f p xs ys h =
+    map-map Some f ys ∙ sym (map-map (option_map f) Some ys) ∙ ap (map (option_map f)) h
+    ∙ map-map (option_map f) (at xs) p ∙ ap (λ (g : ℕ → Option Y). map g p) (fun_ext (λ n. sym (slice_get-map f xs n)))
 
 module _ {size : ℕ} {events : List Event} {s s' : Contents Cell} {rs : List Report} (h : Runs size events s rs s') where
   tells_told : map told rs ≡ reports same (trees size events) s

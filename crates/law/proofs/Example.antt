@@ -1,6 +1,5 @@
 -- The examples that show that the law says something.
-use Rattle.std.proofs.Common.{◌≡◌, ℕ, zero, suc, ◌<◌, eqb, List, [], ◌∷◌, Ok, Err, Result, sym, refl, ap, subst₂, inl, inr, arith, eq-eqb, eqb-true}
-use mathlib.Core.Option.{Option, none, some}
+use Rattle.std.proofs.Common.{◌≡◌, ℕ, zero, suc, ◌<◌, eqb, List, [], ◌∷◌, Some, None, Option, Ok, Err, Result, sym, refl, ap, subst₂, inl, inr, arith, eq-eqb, eqb-true}
 use Rattle.law.specs.declared.Entry.{Entry}
 use Rattle.law.specs.Trees.{Tells, Clash, Lists}
 use Rattle.law.specs.Order.{Report, reports, In, Order, KeepsClashes}
@@ -50,8 +49,8 @@ apart k = elim k.1 [
 ]
 
 abbrev trail_of : Option (Report ℕ ℕ ℕ) → List (Entry ℕ)
-trail_of none = []
-trail_of (some r) = r.trail
+trail_of None = []
+trail_of (Some r) = r.trail
 
 -- what the first of some reports answers
 abbrev answered : Result ℕ ℕ → ℕ
@@ -60,8 +59,8 @@ answered (Err n) = 0
 
 abbrev first : List (Option (Report ℕ ℕ ℕ)) → ℕ
 first [] = 0
-first (none ∷ rs) = 0
-first (some r ∷ rs) = answered r.end
+first (None ∷ rs) = 0
+first (Some r ∷ rs) = answered r.end
 
 pub needed : Differs (raise 0 ∷ double 0 ∷ []) (double 0 ∷ raise 0 ∷ []) (1 ∷ 0 ∷ [])
 needed = record {

@@ -1,7 +1,6 @@
 -- The law of many events: an order that keeps the clashing pairs in order makes no difference.
-use Rattle.std.proofs.Common.{◌≡◌, ℕ, zero, suc, ◌<◌, Bool, ◌⊎◌, List, [], ◌∷◌, map, length, sym, refl, ap, ◌∙◌, subst, ap₂, inl, inr, arith}
+use Rattle.std.proofs.Common.{◌≡◌, ℕ, zero, suc, ◌<◌, Bool, ◌⊎◌, List, [], ◌∷◌, map, length, Some, sym, refl, ap, ◌∙◌, subst, ap₂, inl, inr, arith}
 use mathlib.Core.Path.{fun_ext}
-use mathlib.Core.Option.{some}
 use Rattle.law.specs.Trees.{Tree, Contents, Tells, Clash, run}
 use Rattle.law.specs.Order.{Report, report, reports, final, at, In, Before, Distinct, Taken, Same, Reordering}
 use Rattle.law.proofs.Single.{diamond}
@@ -62,10 +61,10 @@ module _ {C A R : Type 0} (same : C → C → Bool) (tells : Tells same) (es : L
   abbrev Runs : List ℕ → Contents C → Contents C → Type 0
   Runs [] s t = s ≡ t
   Runs (i ∷ l) s t =
-      (e : Tree C A R) × (at es i ≡ some e) × (at rs i ≡ some (report (run same e s))) × Runs l (run same e s).after t
+      (e : Tree C A R) × (at es i ≡ Some e) × (at rs i ≡ Some (report (run same e s))) × Runs l (run same e s).after t
 
   abbrev Clashing : ℕ → ℕ → Type 0
-  Clashing i j = (a : Report C A R) × (b : Report C A R) × (at rs i ≡ some a) × (at rs j ≡ some b) × Clash a.trail b.trail
+  Clashing i j = (a : Report C A R) × (b : Report C A R) × (at rs i ≡ Some a) × (at rs j ≡ Some b) × Clash a.trail b.trail
 
   front : (k : ℕ) (l m : List ℕ) (s t : Contents C) → Drawn (λ x. ¬ Clashing x k) k l m → Runs l s t → Runs (k ∷ m) s t
   front k _ _ s t (here l) h = h
@@ -76,8 +75,8 @@ module _ {C A R : Type 0} (same : C → C → Bool) (tells : Tells same) (es : L
       let q = diamond same tells e f s (λ c. n (report (run same e s), report (run same f (run same e s).after), h.2, g.2, c)) in (
         f,
         g.1,
-        g.2 ∙ ap some (sym q.0),
-        (e, h.1, h.2 ∙ ap some (sym q.1), subst (λ (z : Contents C). Runs m z t) (sym (fun_ext q.2)) g.3),
+        g.2 ∙ ap Some (sym q.0),
+        (e, h.1, h.2 ∙ ap Some (sym q.1), subst (λ (z : Contents C). Runs m z t) (sym (fun_ext q.2)) g.3),
       )
 
   reorder : (m l : List ℕ) (s t : Contents C) → Distinct l → Distinct m
@@ -110,7 +109,7 @@ module _ {C A R : Type 0} (same : C → C → Bool) (tells : Tells same) (es : L
   taken_runs (i ∷ p) [] s t h k = let z : ◌≡◌ {A = ℕ} 0 1 = cc in absurd (omega arith)
   taken_runs (i ∷ p) (f ∷ fs) s t h k =
       let e : Tree C A R = h.0 in
-      let at_e : at es i ≡ some e = h.1 in
+      let at_e : at es i ≡ Some e = h.1 in
       let one : e ≡ f = cc in
       let rest : Taken p es fs = cc in
       let q : Taken p rs (reports same fs (run same e s).after) × (final same fs (run same e s).after ≡ t) =

@@ -1,6 +1,6 @@
 -- Events in a row, and the orders that make no difference.
-use Rattle.std.specs.Prelude.{◌≡◌, ℕ, zero, suc, ◌<◌, Bool, ◌⊎◌, List, [], ◌∷◌, map, length, Result}
-use Rattle.std.proofs.Math.Option.{Option, none, some}
+use Rattle.std.specs.Prelude.{◌≡◌, ℕ, ◌<◌, Bool, ◌⊎◌, List, [], ◌∷◌, map, length, Some, Option, Result}
+use Rattle.std.specs.List.{slice_get}
 use Rattle.law.specs.declared.Entry.{Entry}
 use Rattle.law.specs.Trees.{Tree, Contents, Tells, Outcome, Reads, Changes, Clash, go, run, bind, go_on}
 
@@ -23,9 +23,7 @@ final same (e ∷ es) s = final same es (run same e s).after
 
 -- what stands at a position, counted from 0
 abbrev pub at : {X : Type 0} → List X → ℕ → Option X
-at [] n = none
-at (x ∷ xs) zero = some x
-at (x ∷ xs) (suc n) = at xs n
+at xs n = slice_get xs n
 
 -- i stands in p; i stands in p before j; nothing stands in p twice
 abbrev pub In : ℕ → List ℕ → Type 0
@@ -48,12 +46,12 @@ pub record Order (n : ℕ) (p : List ℕ) : Type 0 where
 
 -- ys is xs in the order p: the k-th of ys is the one of xs whose position is the k-th of p
 abbrev pub Taken : {X : Type 0} → List ℕ → List X → List X → Type 0
-Taken p xs ys = map some ys ≡ map (at xs) p
+Taken p xs ys = map Some ys ≡ map (at xs) p
 
 -- two events that clashed, by the reports of a run, stand in p in the order of that run
 abbrev pub KeepsClashes : {C A R : Type 0} → List (Report C A R) → List ℕ → Type 0
 KeepsClashes {C} {A} {R} rs p =
-    (i j : ℕ) (a b : Report C A R) → i < j → at rs i ≡ some a → at rs j ≡ some b → Clash a.trail b.trail → Before i j p
+    (i j : ℕ) (a b : Report C A R) → i < j → at rs i ≡ Some a → at rs j ≡ Some b → Clash a.trail b.trail → Before i j p
 
 abbrev pub Same : {C : Type 0} → Contents C → Contents C → Type 0
 Same {C} s t = (x : C) → s x ≡ t x

@@ -6,7 +6,6 @@ use Rattle.std.proofs.lemmas.List.{get_or_default}
 use Rattle.std.proofs.lemmas.Map.Steps.{length-le_from_distinct_below}
 use Rattle.std.proofs.lemmas.Option.{MatchOption-at_some}
 use mathlib.Core.List.{map-append}
-use mathlib.Core.Option.{some}
 use Rattle.law.specs.declared.Entry.{Entry}
 use Rattle.law.specs.declared.Entry.TheVariants.{Read, Changed}
 use Rattle.law.specs.Trees.{Contents, Changes, Lists, Clash}
@@ -102,12 +101,12 @@ clash_is : (a b : List (Entry Cell)) → MatchOption (clash? a b) (¬ Clash a b)
 clash_is a b = grind (arith, hit_is a b, hit_is b a)
 
 -- reports at positions
-at_told : (rs : List Report) (i : ℕ) (a : Told Cell Answer Refusal) (d : Report) → at (map told rs) i ≡ some a → (i < length rs) × (a ≡ told (get_or rs i d))
+at_told : (rs : List Report) (i : ℕ) (a : Told Cell Answer Refusal) (d : Report) → at (map told rs) i ≡ Some a → (i < length rs) × (a ≡ told (get_or rs i d))
 at_told [] i a d h = absurd cc
 at_told (r ∷ rs) zero a d h = (omega arith, cc)
 at_told (r ∷ rs) (suc i) a d h = let q = at_told rs i a d h in (omega (arith, q.0), q.1)
 
-told_at : (rs : List Report) (i : ℕ) (d : Report) → i < length rs → at (map told rs) i ≡ some (told (get_or rs i d))
+told_at : (rs : List Report) (i : ℕ) (d : Report) → i < length rs → at (map told rs) i ≡ Some (told (get_or rs i d))
 told_at [] i d h = grind arith
 told_at (r ∷ rs) zero d h = refl
 told_at (r ∷ rs) (suc i) d h = told_at rs i d (omega arith)
@@ -167,7 +166,7 @@ broken_at {rs = rs} {p = p} {w = w} b inv =
     record { early = q.0.early; there = q.0.there; swaps = q.0.swaps; before = λ a c h l m. q.1 a h c l m; between = q.0.between }
 
 -- events at positions
-at_get : {X : Type 0} (xs : List X) (i : ℕ) (d : X) → i < length xs → some (get_or xs i d) ≡ at xs i
+at_get : {X : Type 0} (xs : List X) (i : ℕ) (d : X) → i < length xs → Some (get_or xs i d) ≡ at xs i
 at_get [] i d h = grind arith
 at_get (x ∷ xs) zero d h = refl
 at_get (x ∷ xs) (suc i) d h = at_get xs i d (omega arith)

@@ -1,6 +1,5 @@
 -- What a rehearsal of the same events on two machines comes to.
 use Rattle.std.specs.Prelude.{◌≡◌, ℕ, ◌<◌, ◌≤◌, ◌⊎◌, List, map, length, Some, Ok, Err, Result, slice_index, slice_index_or}
-use Rattle.std.proofs.Math.Option.{some}
 use Rattle.law.specs.Trees.{Changes, Lists, Clash}
 use Rattle.law.specs.Order.{Report as Told, at, Before, Order, KeepsClashes}
 use Rattle.words.specs.declared.Refusal.{Refusal}
@@ -33,12 +32,12 @@ pub record Swapped (rs : Tellings) (p : List ℕ) (w : Swap) : Type 0 where
   pub early : w.first < w.second
   pub one : Told Cell Answer Refusal
   pub other : Told Cell Answer Refusal
-  pub is_one : at rs w.first ≡ some one
-  pub is_other : at rs w.second ≡ some other
+  pub is_one : at rs w.first ≡ Some one
+  pub is_other : at rs w.second ≡ Some other
   pub clash : (Changes w.cell one.trail × Lists w.cell other.trail) ⊎ (Lists w.cell one.trail × Changes w.cell other.trail)
   pub swapped : ¬ Before w.first w.second p
   pub cell_is : clash? one.trail other.trail ≡ Some w.cell
-  pub first : (i j : ℕ) (a b : Told Cell Answer Refusal) → i < j → at rs i ≡ some a → at rs j ≡ some b
+  pub first : (i j : ℕ) (a b : Told Cell Answer Refusal) → i < j → at rs i ≡ Some a → at rs j ≡ Some b
       → (i < w.first) ⊎ ((i ≡ w.first) × (j < w.second)) → Clash a.trail b.trail → Before i j p
 
 -- What a rehearsal answers, and why. `equal` says that the two machines start with equal cells, and rs is what the
