@@ -1,5 +1,5 @@
 // The table of contacts of a crossing card.
-ghost use Rattle.std.specs.Prelude.{◌≡◌, ◌<◌, length, slice_index, ⊤};
+ghost use Rattle.std.specs.Prelude.{◌≡◌, ◌<◌, length, slice_index};
 ghost use Rattle.cards.specs.Contacts.{OneToOne, after_exchange, exchange_told, straight};
 
 use super::{CardRefusal, LINES};

@@ -1,12 +1,12 @@
 // The same events on two machines, in two orders.
 #![tactic(auto)]
 
-ghost use Rattle.std.specs.Prelude.{◌≡◌, ℕ, ◌+◌, ◌<◌, ◌≤◌, true, false, List, map, length, take, drop, Decides, MatchOption, MatchResult, OnOk};
+ghost use Rattle.std.specs.Prelude.{◌≡◌, ℕ, ◌+◌, ◌<◌, ◌≤◌, true, false, map, length, take, drop, Decides, MatchOption, MatchResult, OnOk};
 ghost use Rattle.law.specs.Order.{Taken, Same};
 ghost use Rattle.machine.specs.Calls.{cells_of, Equal};
 ghost use Rattle.events.specs.Events.{told};
-ghost use Rattle.events.specs.Rows.{Runs, AnyOrder};
-ghost use Rattle.rehearsal.specs.Tests.{lists?, changed?, hit?, clash?, member?, before?, distinct?, within?, Fine, IsSwap, Broken, BrokenAfter};
+ghost use Rattle.events.specs.Rows.{Runs};
+ghost use Rattle.rehearsal.specs.Tests.{lists?, changed?, hit?, clash?, before?, distinct?, within?, Fine, IsSwap, Broken, BrokenAfter};
 ghost use Rattle.rehearsal.specs.Rehearsals.{IsOrder, picked, Within, Room, Verdict, IfFirst};
 
 use cards::Card;
