@@ -27,6 +27,21 @@ pub enum Ask {
     Turn { task: u16 },
 }
 
+// What is asked as "place 0010 12CD", or "turn 0".
+impl fmt::Display for Ask {
+    fn fmt<W: fmt::Write>(&self, f: &mut fmt::Formatter<W>) -> fmt::Result {
+        match self {
+            Ask::Place { address, word } => write!(f, "place {address:04X} {word:04X}"),
+            Ask::Feed { line, on } => write!(f, "feed {line} {on}"),
+            Ask::Tick => f.write_str("tick"),
+            Ask::Start { task, address } => write!(f, "start {task} {address:04X}"),
+            Ask::Kill { task } => write!(f, "kill {task}"),
+            Ask::Abort { task } => write!(f, "abort {task}"),
+            Ask::Turn { task } => write!(f, "turn {task}"),
+        }
+    }
+}
+
 // An event: what is asked, and the length of the list for its trail.
 #[derive(Clone, Copy, PartialEq, Eq, Debug)]
 pub struct Event {
@@ -48,6 +63,21 @@ impl Report {
         ensures { result.now ≡ (told self.now).trail }
     {
         &self.trail[..self.count.min(200)]
+    }
+}
+
+// A report as its end, the count and the trail: "Done, entries 1; changed RAM 0010".
+impl fmt::Display for Report {
+    fn fmt<W: fmt::Write>(&self, f: &mut fmt::Formatter<W>) -> fmt::Result {
+        match self.end {
+            Ok(answer) => write!(f, "{answer}")?,
+            Err(refusal) => write!(f, "{refusal}")?,
+        }
+        write!(f, ", entries {}", self.count)?;
+        for entry in self.entries() {
+            write!(f, "; {entry}")?;
+        }
+        Ok(())
     }
 }
 

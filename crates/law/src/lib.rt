@@ -6,6 +6,8 @@ ghost use Rattle.law.specs.Bites.{NotEmpty};
 ghost use Rattle.law.specs.Entries.{cell_of, touch_number};
 ghost use Rattle.law.specs.Order.{OrderLaw};
 
+use std::fmt;
+
 // An entry of a trail: a cell, and whether the event read or changed it.
 #[derive(Clone, Copy, PartialEq, Eq, Debug)]
 pub enum Entry<C> {
@@ -30,6 +32,16 @@ impl<C: Copy> Entry<C> {
         match self {
             Entry::Read(_) => 0,
             Entry::Changed(_) => 1,
+        }
+    }
+}
+
+// An entry as "read RAM 0010", or "changed flag 7".
+impl<C: fmt::Display> fmt::Display for Entry<C> {
+    fn fmt<W: fmt::Write>(&self, f: &mut fmt::Formatter<W>) -> fmt::Result {
+        match self {
+            Entry::Read(cell) => write!(f, "read {cell}"),
+            Entry::Changed(cell) => write!(f, "changed {cell}"),
         }
     }
 }

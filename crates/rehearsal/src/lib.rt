@@ -14,9 +14,11 @@ use cells::Cell;
 use events::{Event, NoRoom, Report, apply, run};
 use law::Entry;
 use machine::Machine;
+use std::error::Error;
+use std::fmt;
 
 // Two events that an order swaps though they clash: their positions, and a cell that they clash on.
-#[derive(Clone, Copy)]
+#[derive(Clone, Copy, PartialEq, Eq, Debug)]
 pub struct Swap {
     pub first: usize,
     pub second: usize,
@@ -24,7 +26,7 @@ pub struct Swap {
 }
 
 // Why a rehearsal does not take place, or stops before the second machine is touched.
-#[derive(Clone, Copy)]
+#[derive(Clone, Copy, PartialEq, Eq, Debug)]
 pub enum Objection {
     // A list has fewer reports than there are events.
     NoRoom,
@@ -44,6 +46,30 @@ impl From<NoRoom> for Objection {
         Objection::NoRoom
     }
 }
+
+// A swap as "the events 83 and 88, which clash on flag 7".
+impl fmt::Display for Swap {
+    fn fmt<W: fmt::Write>(&self, f: &mut fmt::Formatter<W>) -> fmt::Result {
+        write!(
+            f,
+            "the events {} and {}, which clash on {}",
+            self.first, self.second, self.cell
+        )
+    }
+}
+
+impl fmt::Display for Objection {
+    fn fmt<W: fmt::Write>(&self, f: &mut fmt::Formatter<W>) -> fmt::Result {
+        match self {
+            Objection::NoRoom => f.write_str("too little room for the reports"),
+            Objection::NoOrder => f.write_str("no order of the events"),
+            Objection::OtherStart => f.write_str("the machines do not start with equal cells"),
+            Objection::Swaps(swap) => write!(f, "it swaps {swap}"),
+        }
+    }
+}
+
+impl Error for Objection {}
 
 fn lists(trail: &[Entry<Cell>], cell: Cell) -> bool
     ensures { result ≡ lists? cell trail.now }
