@@ -61,10 +61,10 @@ impl fmt::Display for Swap {
 impl fmt::Display for Objection {
     fn fmt<W: fmt::Write>(&self, f: &mut fmt::Formatter<W>) -> fmt::Result {
         match self {
-            Objection::NoRoom => f.write_str("too little room for the reports"),
-            Objection::NoOrder => f.write_str("no order of the events"),
-            Objection::OtherStart => f.write_str("the machines do not start with equal cells"),
-            Objection::Swaps(swap) => write!(f, "it swaps {swap}"),
+            Self::NoRoom => f.write_str("too little room for the reports"),
+            Self::NoOrder => f.write_str("no order of the events"),
+            Self::OtherStart => f.write_str("the machines do not start with equal cells"),
+            Self::Swaps(swap) => write!(f, "it swaps {swap}"),
         }
     }
 }
