@@ -1,57 +1,49 @@
 // The bench: a morning of four tasks and a slip, rehearsed on two machines with other cards, with everything in print.
 #![tactic(auto)]
 
+mod desk;
 mod morning;
-mod print;
 
 use cards::active_low::ActiveLow;
 use cards::crossing::Crossing;
 use cards::wear::Wear;
 use cards::{Card, Packed};
-use cells::{Cell, Kind};
-use events::{Event, Report, apply};
+use cells::Cell;
+use desk::Desk;
+use events::{Event, Report};
 use law::Entry;
-use machine::Machine;
+use morning::Group;
 use perform::Answer;
 use rehearsal::rehearse;
+use std::array::from_fn;
 use std::io;
-
-const WORDS: usize = 256;
-
-type Plain = Machine<Packed, Packed>;
 
 type Inputs = Crossing<ActiveLow<Wear>>;
 
 type Outputs = ActiveLow<Crossing<Packed>>;
 
-type Piled = Machine<Inputs, Outputs>;
-
-// Two lines of the inputs change contacts, and the home switch is active-low. All lines show off.
-fn pile_of_inputs() -> Inputs {
-    let mut mask = [false; 256];
-    mask[3] = true;
-    let mut card = Crossing::new(ActiveLow::new(Wear::new(), mask));
-    let _ = card.exchange(3, 8);
-    for n in 0..256u16 {
-        card.write(n, false);
+// The card, with all lines off.
+fn all_off<C: Card>(mut card: C) -> C {
+    for line in 0..256 {
+        card.write(line, false);
     }
     card
+}
+
+// Two lines of the inputs change contacts, and the home switch is active-low.
+fn pile_of_inputs() -> Inputs {
+    let mut card = Crossing::new(ActiveLow::new(Wear::new(), from_fn(|line| line == 3)));
+    let _ = card.exchange(3, 8);
+    all_off(card)
 }
 
 fn pile_of_outputs() -> Outputs {
-    let mut mask = [false; 256];
-    mask[5] = true;
-    mask[9] = true;
     let mut crossing = Crossing::new(Packed::new());
     let _ = crossing.exchange(4, 200);
-    let mut card = ActiveLow::new(crossing, mask);
-    for n in 0..256u16 {
-        card.write(n, false);
-    }
-    card
+    all_off(ActiveLow::new(crossing, from_fn(|line| line == 5 || line == 9)))
 }
 
-fn blank_report() -> Report {
+fn blank() -> Report {
     Report {
         end: Ok(Answer::Done),
         count: 0,
@@ -60,121 +52,61 @@ fn blank_report() -> Report {
 }
 
 // Rehearses the events in an order on two new machines, and prints what each event came to on both.
-fn show(rt: &HostRuntime, events: &[Event], order: &[usize]) -> io::Result<()> {
-    let mut first: Plain = Machine::new(Packed::new(), Packed::new());
-    let mut second: Piled = Machine::new(pile_of_inputs(), pile_of_outputs());
-    let mut ram1 = vec![in rt.alloc(); 0u16; WORDS]?;
-    let mut ram2 = vec![in rt.alloc(); 0u16; WORDS]?;
-    let mut reports1 = vec![in rt.alloc(); blank_report(); events.len()]?;
-    let mut reports2 = vec![in rt.alloc(); blank_report(); events.len()]?;
-    let said = rehearse(
-        &mut first,
-        &mut ram1,
-        &mut second,
-        &mut ram2,
+fn show(rt: &(impl Print + AllocGlobal), events: &[Event], order: &[usize]) -> io::Result<()> {
+    let mut first = Desk::new(rt.alloc(), Packed::new(), Packed::new())?;
+    let mut second = Desk::new(rt.alloc(), pile_of_inputs(), pile_of_outputs())?;
+    let mut reports1 = vec![in rt.alloc(); blank(); events.len()]?;
+    let mut reports2 = reports1.clone()?;
+    if let Err(no) = rehearse(
+        &mut first.machine,
+        &mut first.ram,
+        &mut second.machine,
+        &mut second.ram,
         events,
         order,
         &mut reports1,
         &mut reports2,
-    );
-    match said {
-        Ok(()) => {
-            println!(rt; "-- in the given order, on packed cards")?;
-            for (i, event) in events.iter().enumerate() {
-                print::report(rt, i, *event, reports1.get(i))?;
-            }
-            println!(rt; "-- in the new order, on piles of wear, active-low and crossing cards")?;
-            for (k, i) in order.iter().enumerate() {
-                print::report_at(rt, *i, events.get(*i), reports2.get(k))?;
-            }
-            all_changed(rt, "the first", &first, &ram1)?;
-            all_changed(rt, "the second", &second, &ram2)
-        }
-        Err(no) => print::objection(rt, no),
+    ) {
+        return println!(rt; "refused: {no}");
     }
-}
-
-// Every cell of a kind that does not hold what it holds in a new machine.
-fn changed<I: Card, O: Card>(
-    rt: &HostRuntime,
-    machine: &Machine<I, O>,
-    ram: &[u16],
-    kind: Kind,
-    tasks: u16,
-    numbers: u16,
-) -> io::Result<()> {
-    for task in 0..tasks {
-        for number in 0..numbers {
-            if let Ok(v) = machine.cell(ram, kind, task, number) {
-                if v != 0 {
-                    print::cell_line(rt, kind, task, number, v)?;
-                }
-            }
+    println!(rt; "-- in the given order, on packed cards")?;
+    for (i, (event, report)) in events.iter().zip(&reports1).enumerate() {
+        println!(rt; "{i} {}: {report}", event.ask)?;
+    }
+    println!(rt; "-- in the new order, on piles of wear, active-low and crossing cards")?;
+    for (i, report) in order.iter().zip(&reports2) {
+        if let Some(event) = events.get(*i) {
+            println!(rt; "{i} {}: {report}", event.ask)?;
         }
     }
-    Ok(())
-}
-
-// A new machine between these cards and this RAM has zero in every cell.
-fn all_changed<I: Card, O: Card>(
-    rt: &HostRuntime,
-    name: &str,
-    machine: &Machine<I, O>,
-    ram: &[u16],
-) -> io::Result<()> {
-    println!(rt; "-- the cells of {name} machine that differ from a new one")?;
-    changed(rt, machine, ram, Kind::Ram, 1, 256)?;
-    changed(rt, machine, ram, Kind::Register, 32, 128)?;
-    changed(rt, machine, ram, Kind::Place, 32, 1)?;
-    changed(rt, machine, ram, Kind::State, 32, 1)?;
-    changed(rt, machine, ram, Kind::Delay, 32, 1)?;
-    changed(rt, machine, ram, Kind::Flag, 1, 256)?;
-    changed(rt, machine, ram, Kind::Input, 1, 256)?;
-    changed(rt, machine, ram, Kind::Output, 1, 256)
-}
-
-fn task_cells(rt: &HostRuntime, machine: &Plain, ram: &[u16], task: u16) -> io::Result<()> {
-    for (kind, number) in [
-        (Kind::State, 0),
-        (Kind::Place, 0),
-        (Kind::Delay, 0),
-        (Kind::Register, 0x77),
-        (Kind::Register, 0x78),
-        (Kind::Register, 0x7B),
-    ] {
-        if let Ok(v) = machine.cell(ram, kind, task, number) {
-            print::cell_line(rt, kind, task, number, v)?;
-        }
-    }
-    Ok(())
+    println!(rt; "-- the cells of the first machine that differ from a new one")?;
+    first.print_changed(rt)?;
+    println!(rt; "-- the cells of the second machine that differ from a new one")?;
+    second.print_changed(rt)
 }
 
 // A task meets a word that is no command, and another task is as it was.
-fn slip(rt: &HostRuntime) -> io::Result<()> {
-    let mut machine: Plain = Machine::new(Packed::new(), Packed::new());
-    let mut ram = vec![in rt.alloc(); 0u16; WORDS]?;
+fn slip(rt: &(impl Print + AllocGlobal)) -> io::Result<()> {
+    let mut desk = Desk::new(rt.alloc(), Packed::new(), Packed::new())?;
     println!(rt; "-- a slip in task 1")?;
     for event in morning::slip() {
-        let report = apply(&mut machine, &mut ram, event);
-        print::report(rt, 0, event, Some(&report))?;
+        desk.step(rt, event)?;
     }
     println!(rt; "-- task 0 before the turn of task 1")?;
-    task_cells(rt, &machine, &ram, 0)?;
-    let event = morning::slip_turn();
-    let report = apply(&mut machine, &mut ram, event);
-    print::report(rt, 0, event, Some(&report))?;
+    desk.print_task(rt, 0)?;
+    desk.step(rt, morning::slip_turn())?;
     println!(rt; "-- task 0 after it")?;
-    task_cells(rt, &machine, &ram, 0)
+    desk.print_task(rt, 0)
 }
 
 fn main(rt: HostRuntime) -> io::Result<()> {
     slip(&rt)?;
     let events = morning::events(rt.alloc())?;
-    let order = morning::order(rt.alloc(), &events, false)?;
+    let order = morning::order(rt.alloc(), &events, Group::Homing)?;
     show(&rt, &events, &order)?;
     println!(rt;
         "-- an order with the pulse task after the homing task, which sets the flag that it waits for"
     )?;
-    let bad = morning::order(rt.alloc(), &events, true)?;
+    let bad = morning::order(rt.alloc(), &events, Group::Pulse)?;
     show(&rt, &events, &bad)
 }

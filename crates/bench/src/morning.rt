@@ -2,124 +2,125 @@
 use events::{Ask, Event};
 use std::alloc::{AllocError, Global};
 
-const HOMING: u16 = 0x10;
-
-const EXHAUST: u16 = 0x30;
-
-const PULSE: u16 = 0x50;
-
-const LAMP: u16 = 0x60;
-
-const SLIP: u16 = 0x80;
+// The words of a task, and the address of the first.
+#[derive(Clone, Copy)]
+struct Listing {
+    address: u16,
+    words: &'static [u16],
+}
 
 // Direction on; step until the home switch shows; direction off; homed flag on; end.
-const HOMING_WORDS: [u16; 16] = [
-    0x12CD, 0x0400, // 10: SBIT output 4, the direction
-    0x11CC, 0x001B, 0x0300, // 12: TBR1 input 3, the home switch: jump to 1B
-    0x12CD, 0x0500, // 15: SBIT output 5, the step line
-    0x13CD, 0x0500, // 17: CBIT output 5
-    0x5000, 0x0012, // 19: BRA 12
-    0x13CD, 0x0400, // 1B: CBIT output 4
-    0x12CE, 0x0700, // 1D: SBIT flag 7, homed
-    0x5500, // 1F: JSKI
-];
+const HOMING: Listing = Listing {
+    address: 0x10,
+    words: &[
+        0x12CD, 0x0400, // 10: SBIT output 4, the direction
+        0x11CC, 0x001B, 0x0300, // 12: TBR1 input 3, the home switch: jump to 1B
+        0x12CD, 0x0500, // 15: SBIT output 5, the step line
+        0x13CD, 0x0500, // 17: CBIT output 5
+        0x5000, 0x0012, // 19: BRA 12
+        0x13CD, 0x0400, // 1B: CBIT output 4
+        0x12CE, 0x0700, // 1D: SBIT flag 7, homed
+        0x5500, // 1F: JSKI
+    ],
+};
 
 // The exhaust runs while the lid is shut.
-const EXHAUST_WORDS: [u16; 10] = [
-    0x15CC, 0x0600, // 30: THT0 input 6, the lid
-    0x12CD, 0x0800, // 32: SBIT output 8, the exhaust
-    0x16CC, 0x0600, // 34: THT1 input 6
-    0x13CD, 0x0800, // 36: CBIT output 8
-    0x5000, 0x0030, // 38: BRA 30
-];
+const EXHAUST: Listing = Listing {
+    address: 0x30,
+    words: &[
+        0x15CC, 0x0600, // 30: THT0 input 6, the lid
+        0x12CD, 0x0800, // 32: SBIT output 8, the exhaust
+        0x16CC, 0x0600, // 34: THT1 input 6
+        0x13CD, 0x0800, // 36: CBIT output 8
+        0x5000, 0x0030, // 38: BRA 30
+    ],
+};
 
 // One pulse once the head is homed.
-const PULSE_WORDS: [u16; 7] = [
-    0x15CE, 0x0700, // 50: THT0 flag 7
-    0x12CD, 0x0A00, // 52: SBIT output 10, the beam
-    0x13CD, 0x0A00, // 54: CBIT output 10
-    0x5500, // 56: JSKI
-];
+const PULSE: Listing = Listing {
+    address: 0x50,
+    words: &[
+        0x15CE, 0x0700, // 50: THT0 flag 7
+        0x12CD, 0x0A00, // 52: SBIT output 10, the beam
+        0x13CD, 0x0A00, // 54: CBIT output 10
+        0x5500, // 56: JSKI
+    ],
+};
 
 // A guest's lamp follows its switch.
-const LAMP_WORDS: [u16; 10] = [
-    0x15CC, 0x0800, // 60: THT0 input 8, the switch
-    0x12CD, 0x0900, // 62: SBIT output 9, the lamp
-    0x16CC, 0x0800, // 64: THT1 input 8
-    0x13CD, 0x0900, // 66: CBIT output 9
-    0x5000, 0x0060, // 68: BRA 60
-];
+const LAMP: Listing = Listing {
+    address: 0x60,
+    words: &[
+        0x15CC, 0x0800, // 60: THT0 input 8, the switch
+        0x12CD, 0x0900, // 62: SBIT output 9, the lamp
+        0x16CC, 0x0800, // 64: THT1 input 8
+        0x13CD, 0x0900, // 66: CBIT output 9
+        0x5000, 0x0060, // 68: BRA 60
+    ],
+};
+
+// A word that is no command.
+const SLIP: Listing = Listing {
+    address: 0x80,
+    words: &[0xFF00],
+};
 
 fn event(ask: Ask) -> Event {
     Event { ask, room: 200 }
 }
 
-fn place_all(events: &mut Vec<Event>, from: u16, words: &[u16]) -> Result<(), AllocError> {
-    let mut address = from;
-    for word in words {
-        events.push(event(Ask::Place {
+fn place_all(events: &mut Vec<Event>, listing: Listing) -> Result<(), AllocError> {
+    let addresses = listing.address..=u16::MAX;
+    events.extend(
+        addresses.zip(listing.words).map(|(address, word)| event(Ask::Place {
             address,
             word: *word,
-        }))?;
-        address = address.wrapping_add(1);
-    }
-    Ok(())
-}
-
-fn turn(events: &mut Vec<Event>, task: u16) -> Result<(), AllocError> {
-    events.push(event(Ask::Turn { task }))?;
-    Ok(())
-}
-
-fn feed(events: &mut Vec<Event>, line: u16, on: bool) -> Result<(), AllocError> {
-    events.push(event(Ask::Feed { line, on }))?;
-    Ok(())
+        })),
+    )
 }
 
 // What the world does in a round: the lid shuts and opens, the lamp's switch too, and the head reaches home.
-fn world(events: &mut Vec<Event>, round: u16) -> Result<(), AllocError> {
+fn world(round: u16) -> Option<Ask> {
     match round {
-        1 => feed(events, 6, true),
-        2 => feed(events, 8, true),
-        4 => turn(events, 4),
-        6 => {
-            events.push(event(Ask::Tick))?;
-            Ok(())
-        }
-        9 => feed(events, 8, false),
-        12 => feed(events, 3, true),
-        14 => feed(events, 6, false),
-        _ => Ok(()),
+        1 => Some(Ask::Feed { line: 6, on: true }),
+        2 => Some(Ask::Feed { line: 8, on: true }),
+        4 => Some(Ask::Turn { task: 4 }),
+        6 => Some(Ask::Tick),
+        9 => Some(Ask::Feed { line: 8, on: false }),
+        12 => Some(Ask::Feed { line: 3, on: true }),
+        14 => Some(Ask::Feed { line: 6, on: false }),
+        _ => None,
     }
+}
+
+// Homing has a turn in each round, the exhaust and the lamp in turns, and the pulse in the last rounds.
+fn asks_of(round: u16) -> [Option<Ask>; 4] {
+    [
+        Some(Ask::Turn { task: 0 }),
+        world(round),
+        Some(Ask::Turn {
+            task: 1 + round % 2,
+        }),
+        (round >= 13).then_some(Ask::Turn { task: 3 }),
+    ]
 }
 
 pub(crate) fn events(heap: Global) -> Result<Vec<Event>, AllocError> {
     let mut events = Vec::new(heap);
-    place_all(&mut events, HOMING, &HOMING_WORDS)?;
-    place_all(&mut events, EXHAUST, &EXHAUST_WORDS)?;
-    place_all(&mut events, PULSE, &PULSE_WORDS)?;
-    place_all(&mut events, LAMP, &LAMP_WORDS)?;
-    place_all(&mut events, SLIP, &[0xFF00])?;
-    let mut task = 0u16;
-    for address in [HOMING, EXHAUST, LAMP, PULSE, SLIP] {
-        events.push(event(Ask::Start { task, address }))?;
-        task = task.wrapping_add(1);
+    for listing in [HOMING, EXHAUST, PULSE, LAMP, SLIP] {
+        place_all(&mut events, listing)?;
     }
-    for round in 0..18u16 {
-        turn(&mut events, 0)?;
-        world(&mut events, round)?;
-        if round % 2 == 0 {
-            turn(&mut events, 1)?;
-        } else {
-            turn(&mut events, 2)?;
-        }
-        if round >= 13 {
-            turn(&mut events, 3)?;
-        }
+    for (task, listing) in (0..5).zip([HOMING, EXHAUST, LAMP, PULSE, SLIP]) {
+        events.push(event(Ask::Start {
+            task,
+            address: listing.address,
+        }))?;
     }
-    events.push(event(Ask::Abort { task: 1 }))?;
-    events.push(event(Ask::Kill { task: 4 }))?;
-    events.push(event(Ask::Tick))?;
+    for round in 0..18 {
+        events.extend(asks_of(round).into_iter().flatten().map(event))?;
+    }
+    let last = [Ask::Abort { task: 1 }, Ask::Kill { task: 4 }, Ask::Tick];
+    events.extend(last.into_iter().map(event))?;
     Ok(events)
 }
 
@@ -127,16 +128,16 @@ pub(crate) fn events(heap: Global) -> Result<Vec<Event>, AllocError> {
 pub(crate) fn slip() -> [Event; 3] {
     [
         event(Ask::Place {
-            address: SLIP,
+            address: SLIP.address,
             word: 0xFF00,
         }),
         event(Ask::Start {
             task: 0,
-            address: HOMING,
+            address: HOMING.address,
         }),
         event(Ask::Start {
             task: 1,
-            address: SLIP,
+            address: SLIP.address,
         }),
     ]
 }
@@ -145,16 +146,28 @@ pub(crate) fn slip_turn() -> Event {
     event(Ask::Turn { task: 1 })
 }
 
-// To which group an event belongs: setting up, the lamp, the exhaust, homing, the pulse, the slip, and ticks.
-fn group(ask: Ask, pulse_apart: bool) -> u16 {
+// What an event has to do with, in the order in which the groups come.
+#[derive(Clone, Copy, PartialEq, Eq, PartialOrd, Ord)]
+pub(crate) enum Group {
+    SettingUp,
+    Lamp,
+    Exhaust,
+    Homing,
+    Pulse,
+    Slip,
+    Ticks,
+}
+
+// The group of an event, where the turns of the pulse are put into a group of the caller's choice.
+fn group_of(ask: Ask, pulse: Group) -> Group {
     match ask {
-        Ask::Place { .. } | Ask::Start { .. } => 0,
-        Ask::Feed { line: 8, .. } | Ask::Turn { task: 2 } => 1,
-        Ask::Feed { line: 6, .. } | Ask::Turn { task: 1 } | Ask::Abort { .. } => 2,
-        Ask::Turn { task: 3 } => { if pulse_apart { 4 } else { 3 } }
-        Ask::Feed { .. } | Ask::Turn { task: 0 } => 3,
-        Ask::Turn { .. } | Ask::Kill { .. } => 5,
-        Ask::Tick => 6,
+        Ask::Place { .. } | Ask::Start { .. } => Group::SettingUp,
+        Ask::Feed { line: 8, .. } | Ask::Turn { task: 2 } => Group::Lamp,
+        Ask::Feed { line: 6, .. } | Ask::Turn { task: 1 } | Ask::Abort { .. } => Group::Exhaust,
+        Ask::Feed { .. } | Ask::Turn { task: 0 } => Group::Homing,
+        Ask::Turn { task: 3 } => pulse,
+        Ask::Turn { .. } | Ask::Kill { .. } => Group::Slip,
+        Ask::Tick => Group::Ticks,
     }
 }
 
@@ -162,15 +175,9 @@ fn group(ask: Ask, pulse_apart: bool) -> u16 {
 pub(crate) fn order(
     heap: Global,
     events: &[Event],
-    pulse_apart: bool,
+    pulse: Group,
 ) -> Result<Vec<usize>, AllocError> {
-    let mut order = Vec::new(heap);
-    for number in 0..7u16 {
-        for (i, event) in events.iter().enumerate() {
-            if group(event.ask, pulse_apart) == number {
-                order.push(i)?;
-            }
-        }
-    }
+    let mut order: Vec<usize> = (0..events.len()).collect(heap)?;
+    order.sort_by_key(|i| events.get(*i).map(|event| group_of(event.ask, pulse)))?;
     Ok(order)
 }
