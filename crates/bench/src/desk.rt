@@ -5,6 +5,7 @@ use events::{Event, apply};
 use machine::Machine;
 use std::alloc::{AllocError, Global};
 use std::io;
+use words::RegisterNumber;
 
 const WORDS: usize = 256;
 
@@ -40,7 +41,7 @@ impl<I: Card + Drop, O: Card + Drop> Desk<I, O> {
         asked.ok()
     }
 
-    // One event, with what it came to.
+    // One event, as a list of its own, with what it came to.
     pub(crate) fn step(&mut self, rt: &impl Print, event: Event) -> io::Result<()> {
         let report = apply(&mut self.machine, &mut self.ram, event);
         println!(rt; "0 {}: {report}", event.ask)
@@ -51,9 +52,9 @@ impl<I: Card + Drop, O: Card + Drop> Desk<I, O> {
             Cell::State { task },
             Cell::Place { task },
             Cell::Delay { task },
-            Cell::Register { task, number: 0x77 },
-            Cell::Register { task, number: 0x78 },
-            Cell::Register { task, number: 0x7B },
+            register(task, RegisterNumber::STACK_DEPTH),
+            register(task, RegisterNumber::TIMER),
+            register(task, RegisterNumber::ABORT_ADDRESS),
         ] {
             if let Some(value) = self.value(cell) {
                 print_cell(rt, cell, value)?;
@@ -77,6 +78,13 @@ impl<I: Card + Drop, O: Card + Drop> Desk<I, O> {
             }
         }
         Ok(())
+    }
+}
+
+fn register(task: u8, number: RegisterNumber) -> Cell {
+    Cell::Register {
+        task,
+        number: number.get(),
     }
 }
 

@@ -33,13 +33,13 @@ fn all_off<C: Card>(mut card: C) -> C {
 // Two lines of the inputs change contacts, and the home switch is active-low.
 fn pile_of_inputs() -> Inputs {
     let mut card = Crossing::new(ActiveLow::new(Wear::new(), from_fn(|line| line == 3)));
-    let _ = card.exchange(3, 8);
+    card.exchange(3, 8).unwrap();
     all_off(card)
 }
 
 fn pile_of_outputs() -> Outputs {
     let mut crossing = Crossing::new(Packed::new());
-    let _ = crossing.exchange(4, 200);
+    crossing.exchange(4, 200).unwrap();
     all_off(ActiveLow::new(crossing, from_fn(|line| line == 5 || line == 9)))
 }
 
@@ -70,13 +70,13 @@ fn show(rt: &(impl Print + AllocGlobal), events: &[Event], order: &[usize]) -> i
         return println!(rt; "refused: {no}");
     }
     println!(rt; "-- in the given order, on packed cards")?;
-    for (i, (event, report)) in events.iter().zip(&reports1).enumerate() {
-        println!(rt; "{i} {}: {report}", event.ask)?;
+    for (position, (event, report)) in events.iter().zip(&reports1).enumerate() {
+        println!(rt; "{position} {}: {report}", event.ask)?;
     }
     println!(rt; "-- in the new order, on piles of wear, active-low and crossing cards")?;
-    for (i, report) in order.iter().zip(&reports2) {
-        if let Some(event) = events.get(*i) {
-            println!(rt; "{i} {}: {report}", event.ask)?;
+    for (position, report) in order.iter().zip(&reports2) {
+        if let Some(event) = events.get(*position) {
+            println!(rt; "{position} {}: {report}", event.ask)?;
         }
     }
     println!(rt; "-- the cells of the first machine that differ from a new one")?;
@@ -107,6 +107,6 @@ fn main(rt: HostRuntime) -> io::Result<()> {
     println!(rt;
         "-- an order with the pulse task after the homing task, which sets the flag that it waits for"
     )?;
-    let bad = morning::order(rt.alloc(), &events, Group::Pulse)?;
-    show(&rt, &events, &bad)
+    let apart = morning::order(rt.alloc(), &events, Group::Pulse)?;
+    show(&rt, &events, &apart)
 }

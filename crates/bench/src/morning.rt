@@ -65,18 +65,23 @@ const SLIP: Listing = Listing {
     words: &[0xFF00],
 };
 
-fn event(ask: Ask) -> Event {
-    Event { ask, room: 200 }
-}
+impl Listing {
+    fn place(self, asks: &mut Vec<Ask>) -> Result<(), AllocError> {
+        let addresses = self.address..=u16::MAX;
+        asks.extend(
+            addresses.zip(self.words).map(|(address, word)| Ask::Place {
+                address,
+                word: *word,
+            }),
+        )
+    }
 
-fn place_all(events: &mut Vec<Event>, listing: Listing) -> Result<(), AllocError> {
-    let addresses = listing.address..=u16::MAX;
-    events.extend(
-        addresses.zip(listing.words).map(|(address, word)| event(Ask::Place {
-            address,
-            word: *word,
-        })),
-    )
+    fn start(self, task: u16) -> Ask {
+        Ask::Start {
+            task,
+            address: self.address,
+        }
+    }
 }
 
 // What the world does in a round: the lid shuts and opens, the lamp's switch too, and the head reaches home.
@@ -105,41 +110,39 @@ fn asks_of(round: u16) -> [Option<Ask>; 4] {
     ]
 }
 
-pub(crate) fn events(heap: Global) -> Result<Vec<Event>, AllocError> {
-    let mut events = Vec::new(heap);
+fn asks(heap: Global) -> Result<Vec<Ask>, AllocError> {
+    let mut asks = Vec::new(heap);
     for listing in [HOMING, EXHAUST, PULSE, LAMP, SLIP] {
-        place_all(&mut events, listing)?;
+        listing.place(&mut asks)?;
     }
-    for (task, listing) in (0..5).zip([HOMING, EXHAUST, LAMP, PULSE, SLIP]) {
-        events.push(event(Ask::Start {
-            task,
-            address: listing.address,
-        }))?;
-    }
+    let started = [HOMING, EXHAUST, LAMP, PULSE, SLIP];
+    asks.extend(
+        (0..5)
+            .zip(started)
+            .map(|(task, listing)| listing.start(task)),
+    )?;
     for round in 0..18 {
-        events.extend(asks_of(round).into_iter().flatten().map(event))?;
+        asks.extend(asks_of(round).into_iter().flatten())?;
     }
-    let last = [Ask::Abort { task: 1 }, Ask::Kill { task: 4 }, Ask::Tick];
-    events.extend(last.into_iter().map(event))?;
-    Ok(events)
+    asks.extend([Ask::Abort { task: 1 }, Ask::Kill { task: 4 }, Ask::Tick])?;
+    Ok(asks)
+}
+
+fn event(ask: Ask) -> Event {
+    Event { ask, room: 200 }
+}
+
+pub(crate) fn events(heap: Global) -> Result<Vec<Event>, AllocError> {
+    asks(heap)?.into_iter().map(event).collect(heap)
 }
 
 // Two tasks are started, and the second has a word that is no command.
 pub(crate) fn slip() -> [Event; 3] {
-    [
-        event(Ask::Place {
-            address: SLIP.address,
-            word: 0xFF00,
-        }),
-        event(Ask::Start {
-            task: 0,
-            address: HOMING.address,
-        }),
-        event(Ask::Start {
-            task: 1,
-            address: SLIP.address,
-        }),
-    ]
+    let place = Ask::Place {
+        address: SLIP.address,
+        word: 0xFF00,
+    };
+    [place, HOMING.start(0), SLIP.start(1)].map(event)
 }
 
 pub(crate) fn slip_turn() -> Event {
@@ -147,7 +150,7 @@ pub(crate) fn slip_turn() -> Event {
 }
 
 // What an event has to do with, in the order in which the groups come.
-#[derive(Clone, Copy, PartialEq, Eq, PartialOrd, Ord)]
+#[derive(Clone, Copy, PartialEq, Eq, PartialOrd, Ord, Debug)]
 pub(crate) enum Group {
     SettingUp,
     Lamp,

@@ -69,11 +69,11 @@ impl Report {
 // A report as its end, the count and the trail: "Done, entries 1; changed RAM 0010".
 impl fmt::Display for Report {
     fn fmt<W: fmt::Write>(&self, f: &mut fmt::Formatter<W>) -> fmt::Result {
+        let count = self.count;
         match self.end {
-            Ok(answer) => write!(f, "{answer}")?,
-            Err(refusal) => write!(f, "{refusal}")?,
+            Ok(answer) => write!(f, "{}", Answered { answer, count })?,
+            Err(refusal) => write!(f, "{}", Refused { refusal, count })?,
         }
-        write!(f, ", entries {}", self.count)?;
         for entry in self.entries() {
             write!(f, "; {entry}")?;
         }
