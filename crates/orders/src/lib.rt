@@ -13,6 +13,7 @@ mod tests {
     use machine::Machine;
     use perform::Answer;
     use rehearsal::{Objection, is_order, rehearse};
+    use std::array::from_fn;
     use std::process::Abort;
     use std::test::Fail;
 
@@ -78,68 +79,33 @@ mod tests {
     }
 
     fn low_card() -> ActiveLow<Packed> {
-        let mut mask = [false; 256];
-        mask[8] = true;
-        let mut card = ActiveLow::new(Packed::new(), mask);
+        let mut card = ActiveLow::new(Packed::new(), from_fn(|line| line == 8));
         card.write(8, false);
         card
     }
 
     fn crossed_card() -> Crossing<Wear> {
         let mut card = Crossing::new(Wear::new());
-        let _ = card.exchange(4, 77);
+        card.exchange(4, 77).unwrap();
         card
     }
 
     // Seven digits below seven.
     fn digits(number: u32) -> [usize; 7] {
-        let mut order = [0usize; 7];
         let mut rest = number;
-        for k in 0..7usize {
-            order[k] = (rest % 7) as usize;
-            rest = rest / 7;
-        }
-        order
-    }
-
-    fn same_end(a: &Report, b: &Report) -> bool {
-        match (a.end, b.end) {
-            (Ok(x), Ok(y)) => x.number() == y.number(),
-            (Err(x), Err(y)) => {
-                x.reason.number() == y.reason.number()
-                    && x.task == y.task
-                    && x.place == y.place
-                    && x.operand == y.operand
-            }
-            _ => false,
-        }
-    }
-
-    fn same_trail(a: &Report, b: &Report) -> bool {
-        if a.count != b.count {
-            return false;
-        }
-        for (x, y) in a.entries().iter().zip(b.entries().iter()) {
-            if x.touch_number() != y.touch_number() || !x.cell().same(y.cell()) {
-                return false;
-            }
-        }
-        true
+        from_fn(|_| {
+            let digit = (rest % 7) as usize;
+            rest /= 7;
+            digit
+        })
     }
 
     // Each event of the second run, told by its position, came to what it came to in the first.
     fn same_reports(order: &[usize], first: &[Report], second: &[Report]) -> bool {
-        for (k, i) in order.iter().enumerate() {
-            match (first.get(*i), second.get(k)) {
-                (Some(a), Some(b)) => {
-                    if !same_end(a, b) || !same_trail(a, b) {
-                        return false;
-                    }
-                }
-                _ => return false,
-            }
-        }
-        true
+        order
+            .iter()
+            .zip(second)
+            .all(|(position, report)| first.get(*position) == Some(report))
     }
 
     // Whether the order is kept; and then that both runs came to the same.
@@ -150,8 +116,8 @@ mod tests {
         let mut second: Piled = Machine::new(low_card(), crossed_card());
         let mut reports1 = [blank(); 13];
         let mut reports2 = [blank(); 13];
-        assert!(rt; run(&mut first, &mut ram1, &set_up(), &mut reports1).is_ok());
-        assert!(rt; run(&mut second, &mut ram2, &set_up(), &mut reports2).is_ok());
+        run(&mut first, &mut ram1, &set_up(), &mut reports1)?;
+        run(&mut second, &mut ram2, &set_up(), &mut reports2)?;
         match rehearse(
             &mut first,
             &mut ram1,
@@ -171,25 +137,22 @@ mod tests {
                 assert!(rt; swap.first < swap.second, "an earlier and a later event");
                 Ok(false)
             }
-            Err(_) => Err(Fail::new("no order, or another start")),
+            Err(no) => Err(Fail::from(no)),
         }
     }
 
     #[test]
     fn every_order(rt: HostRuntime) -> Result<(), Fail> {
-        let mut orders = 0u32;
-        let mut kept = 0u32;
-        for number in 0..823543u32 {
-            let order = digits(number);
-            if is_order(&order, 7) {
-                orders = orders.wrapping_add(1);
-                if try_order(&rt, &order)? {
-                    kept = kept.wrapping_add(1);
-                }
-            }
-        }
-        assert_eq!(rt; orders, 5040);
-        assert_eq!(rt; kept, 420);
+        let orders: Vec<[usize; 7]> = (0..823543u32)
+            .map(digits)
+            .filter(|order| is_order(order, 7))
+            .collect(rt.alloc())?;
+        assert_eq!(rt; orders.len(), 5040);
+        let kept: Vec<bool> = orders
+            .iter()
+            .map(|order| try_order(&rt, order))
+            .try_collect(rt.alloc())?;
+        assert_eq!(rt; kept.iter().filter(|kept| **kept).count(), 420);
         Ok(())
     }
 }
