@@ -5,83 +5,165 @@
 mod tests {
     use cards::Packed;
     use cells::{Cell, Kind};
-    use law::Entry;
+    use events::{Ask, call};
+    use law::Entry::{self, Changed, Read};
     use machine::{Answered, Machine, Refused};
     use perform::Answer;
-    use std::alloc::Global;
+    use std::alloc::{AllocError, Global};
     use std::process::Abort;
     use std::test::Fail;
-
-    type Desk = Machine<Packed, Packed>;
+    use words::{Reason, Refusal, Site};
 
     // An entry that no event here writes.
-    const MARK: Entry<Cell> = Entry::Read(Cell::Ram { address: 0xABCD });
+    const MARK: Entry<Cell> = Read(Cell::Ram { address: 0xABCD });
 
-    fn new_machine() -> Desk {
-        Machine::new(Packed::new(), Packed::new())
+    // A machine with its RAM.
+    #[derive(Drop)]
+    struct Desk {
+        machine: Machine<Packed, Packed>,
+        ram: Vec<u16>,
     }
 
-    // What a call said.
-    #[derive(Clone, Copy, PartialEq, Debug)]
-    enum Said {
-        Done,
-        Idle,
-        Waiting,
-        Halted,
-        Ran,
-        Refused {
-            number: u16,
-            task: u16,
-            place: u16,
-            operand: u16,
-        },
-    }
+    impl Desk {
+        fn new(heap: Global, size: usize) -> Result<Desk, AllocError> {
+            Ok(Desk {
+                machine: Machine::new(Packed::new(), Packed::new()),
+                ram: vec![in heap; 0u16; size]?,
+            })
+        }
 
-    fn spoken(answer: Answer) -> Said {
-        match answer {
-            Answer::Done => Said::Done,
-            Answer::Idle => Said::Idle,
-            Answer::Waiting => Said::Waiting,
-            Answer::Halted => Said::Halted,
-            Answer::Ran => Said::Ran,
+        fn call(&mut self, ask: Ask, list: &mut [Entry<Cell>]) -> Result<Answered, Refused> {
+            call(&mut self.machine, &mut self.ram, ask, list)
+        }
+
+        // A call whose trail is not looked at.
+        fn ask(&mut self, ask: Ask) -> Result<Answered, Refused> {
+            self.call(ask, &mut [MARK; 200])
+        }
+
+        // Puts words into RAM. Those past its end are left out.
+        fn load(&mut self, place: u16, words: [u16; 3]) {
+            for (k, word) in (0u16..3).zip(words) {
+                let address = place.wrapping_add(k);
+                let _ = self.ask(Ask::Place { address, word });
+            }
+        }
+
+        fn start(&mut self, rt: &impl Abort, task: u16, address: u16) {
+            let end = self.ask(Ask::Start { task, address });
+            assert_eq!(rt; end, said(Answer::Done, 7));
+        }
+
+        // Another task switches a line on, by SBIT.
+        fn switch_on(&mut self, rt: &impl Abort, head: u16, line: u16) {
+            self.load(0x80, [head, line, 0]);
+            self.start(rt, 7, 0x80);
+            assert_eq!(rt; self.ask(Ask::Turn { task: 7 }), said(Answer::Ran, 7));
+        }
+
+        // What comes before the turn of a row.
+        fn prepare(&mut self, rt: &impl Abort, row: Row) {
+            let Row(At { task, place, .. }, words, before, _, _, _) = row;
+            self.load(place, words);
+            match before {
+                Off => {}
+                Fed(line) => {
+                    let end = self.ask(Ask::Feed { line, on: true });
+                    assert_eq!(rt; end, said(Answer::Done, 1));
+                }
+                Lit(line) => self.switch_on(rt, 0x120D, line),
+                Up(flag) => self.switch_on(rt, 0x120E, flag),
+            }
+            self.start(rt, u16::from(task), place);
+        }
+
+        // After an event the list has these entries.
+        fn lists(&mut self, rt: &impl Abort, ask: Ask, answer: Answer, entries: &[Entry<Cell>]) {
+            let mut list = [MARK; 200];
+            let end = self.call(ask, &mut list);
+            assert_eq!(rt; end, said(answer, entries.len()));
+            listed(rt, &list, entries);
+        }
+
+        fn value(&self, cell: Cell) -> Result<u16, Refusal> {
+            self.machine
+                .cell(&self.ram, cell.kind(), cell.task(), cell.number())
+        }
+
+        fn same_cells(&self, other: &Desk) -> bool {
+            self.machine
+                .same_cells(&self.ram, &other.machine, &other.ram)
         }
     }
 
-    // What a call said, and how many entries it wrote.
-    fn told(end: Result<Answered, Refused>) -> (Said, usize) {
-        match end {
-            Ok(Answered { answer, count }) => (spoken(answer), count),
-            Err(Refused { refusal, count }) => (
-                Said::Refused {
-                    number: refusal.reason.number(),
-                    task: refusal.task as u16,
-                    place: refusal.place,
-                    operand: refusal.operand as u16,
-                },
-                count,
-            ),
-        }
+    fn said(answer: Answer, count: usize) -> Result<Answered, Refused> {
+        Ok(Answered { answer, count })
+    }
+
+    // The reason that has a number.
+    fn reason(number: u16) -> Result<Reason, Fail> {
+        let reasons = [
+            Reason::RamLength,
+            Reason::NoSuchThing,
+            Reason::ShortTrail,
+            Reason::NotIdle,
+            Reason::PastRam,
+            Reason::UnknownCode,
+            Reason::WrongMode,
+            Reason::OperandPast,
+            Reason::ValueRange,
+            Reason::StackDepth,
+        ];
+        let found = reasons.into_iter().find(|it| it.number() == number);
+        Ok(found.ok_or("no such reason")?)
     }
 
     // RAM's length, and the task and the place of a command.
     #[derive(Clone, Copy)]
-    struct At(usize, u16, u16);
+    struct At {
+        size: usize,
+        task: u8,
+        place: u16,
+    }
 
-    const HERE: At = At(256, 0, 0x10);
+    const HERE: At = At {
+        size: 256,
+        task: 0,
+        place: 0x10,
+    };
 
-    const LAST: At = At(256, 31, 0x10);
+    const LAST: At = At { task: 31, ..HERE };
 
-    const NEAR: At = At(256, 0, 0xFE);
+    const NEAR: At = At {
+        place: 0xFE,
+        ..HERE
+    };
 
-    const END: At = At(256, 0, 0xFF);
+    const END: At = At {
+        place: 0xFF,
+        ..HERE
+    };
 
-    const PAST: At = At(256, 0, 0x100);
+    const PAST: At = At {
+        place: 0x100,
+        ..HERE
+    };
 
-    const LONG: At = At(65535, 0, 0xFFFE);
+    const LONG: At = At {
+        size: 65535,
+        task: 0,
+        place: 0xFFFE,
+    };
 
-    const FULL: At = At(65536, 0, 0xFFFE);
+    const FULL: At = At {
+        size: 65536,
+        ..LONG
+    };
 
-    const TOP: At = At(65536, 0, 0xFFFF);
+    const TOP: At = At {
+        place: 0xFFFF,
+        ..FULL
+    };
 
     // What is switched on before: nothing, an input line, an output line or a flag.
     #[derive(Clone, Copy)]
@@ -100,7 +182,7 @@ mod tests {
     enum Comes {
         Ran(u16),
         Halted,
-        No(u16, u16),
+        No(u16, u8),
     }
 
     use Comes::{Halted, No, Ran};
@@ -108,15 +190,16 @@ mod tests {
     // What a line, or the state of the command's task, holds afterwards.
     #[derive(Clone, Copy)]
     enum Holds {
-        In(u16, u16),
-        Out(u16, u16),
-        Flag(u16, u16),
+        In(u8, u16),
+        Out(u8, u16),
+        Flag(u8, u16),
         State(u16),
     }
 
     use Holds::{Flag, In, Out, State};
 
-    // Where, the words, what is on before, what the turn says, its count of entries, and a cell afterwards.
+    // Where, the words, what is on before, what the turn says, its count of entries, and a cell afterwards. The fields, and
+    // those of the three enums, have no names, so that a row of the tables is one line.
     #[derive(Clone, Copy)]
     struct Row(At, [u16; 3], Before, Comes, usize, Holds);
 
@@ -228,102 +311,46 @@ mod tests {
         Row(TOP, [0x5000, 0x1234, 0], Off, Ran(0x1234), 6, State(1)),
     ];
 
-    // Puts words into RAM. Those past its end are left out.
-    fn load(
-        machine: &mut Desk,
-        ram: &mut [u16],
-        place: u16,
-        words: [u16; 3],
-        list: &mut [Entry<Cell>],
-    ) {
-        for k in 0..3u16 {
-            let _ = machine.place(ram, place.wrapping_add(k), words[k as usize], list);
-        }
-    }
-
-    // Another task switches a line on, by SBIT.
-    fn switch_on(
-        rt: &impl Abort,
-        machine: &mut Desk,
-        ram: &mut [u16],
-        head: u16,
-        line: u16,
-        list: &mut [Entry<Cell>],
-    ) {
-        load(machine, ram, 0x80, [head, line, 0], list);
-        assert_eq!(rt; told(machine.start(ram, 7, 0x80, list)), (Said::Done, 7));
-        assert_eq!(rt; told(machine.turn(ram, 7, list)), (Said::Ran, 7));
-    }
-
-    // What comes before the turn of a row.
-    fn prepare(
-        rt: &impl Abort,
-        machine: &mut Desk,
-        ram: &mut [u16],
-        row: Row,
-        list: &mut [Entry<Cell>],
-    ) {
-        let Row(At(_, task, place), words, before, _, _, _) = row;
-        load(machine, ram, place, words, list);
-        match before {
-            Before::Off => {}
-            Before::Fed(line) => {
-                assert_eq!(rt; told(machine.feed(ram, line, true, list)), (Said::Done, 1));
-            }
-            Before::Lit(line) => switch_on(rt, machine, ram, 0x120D, line, list),
-            Before::Up(flag) => switch_on(rt, machine, ram, 0x120E, flag, list),
-        }
-        assert_eq!(rt;
-            told(machine.start(ram, task, place, list)),
-            (Said::Done, 7)
-        );
-    }
-
     // What the turn of a row says, and the place afterwards.
-    fn outcome(row: Row) -> (Said, u16) {
-        let Row(At(_, task, place), _, _, comes, _, _) = row;
+    fn outcome(row: Row) -> Result<(Result<Answered, Refused>, u16), Fail> {
+        let Row(At { task, place, .. }, _, _, comes, count, _) = row;
         match comes {
-            Comes::Ran(next) => (Said::Ran, next),
-            Comes::Halted => (Said::Halted, place),
-            Comes::No(number, operand) => (
-                Said::Refused {
-                    number,
-                    task,
-                    place,
-                    operand,
-                },
-                place,
-            ),
+            Ran(next) => Ok((said(Answer::Ran, count), next)),
+            Halted => Ok((said(Answer::Halted, count), place)),
+            No(number, operand) => {
+                let refusal = Site { task, place }.refusal(reason(number)?, operand);
+                Ok((Err(Refused { refusal, count }), place))
+            }
         }
     }
 
-    // Whether the cell of a row holds what it is to hold.
-    fn held(rt: &impl Abort, machine: &Desk, ram: &[u16], i: usize, row: Row) {
-        let Row(At(_, task, _), _, _, _, _, holds) = row;
-        let (got, want) = match holds {
-            Holds::In(n, v) => (machine.cell(ram, Kind::Input, 0, n), v),
-            Holds::Out(n, v) => (machine.cell(ram, Kind::Output, 0, n), v),
-            Holds::Flag(n, v) => (machine.cell(ram, Kind::Flag, 0, n), v),
-            Holds::State(v) => (machine.cell(ram, Kind::State, task, 0), v),
-        };
-        assert_eq!(rt; got.ok(), Some(want), "row {i}: the cell");
+    // The cell of a row, and what it is to hold.
+    fn held(row: Row) -> (Cell, u16) {
+        let Row(At { task, .. }, _, _, _, _, holds) = row;
+        match holds {
+            In(line, value) => (Cell::Input { line }, value),
+            Out(line, value) => (Cell::Output { line }, value),
+            Flag(line, value) => (Cell::Flag { line }, value),
+            State(value) => (Cell::State { task }, value),
+        }
     }
 
     fn run(rt: &impl Abort, heap: Global, i: usize, row: Row) -> Result<(), Fail> {
-        let Row(At(size, task, _), _, _, _, count, _) = row;
-        let (end, next) = outcome(row);
-        let mut ram = vec![in heap; 0u16; size]?;
-        let mut machine = new_machine();
-        let mut list = [MARK; 200];
-        prepare(rt, &mut machine, &mut ram, row, &mut list);
+        let Row(At { size, task, .. }, _, _, _, _, _) = row;
+        let (end, next) = outcome(row)?;
+        let (cell, value) = held(row);
+        let mut desk = Desk::new(heap, size)?;
+        desk.prepare(rt, row);
+        let turn = Ask::Turn {
+            task: u16::from(task),
+        };
+        assert_eq!(rt; desk.ask(turn), end, "row {i}");
         assert_eq!(rt;
-            told(machine.turn(&mut ram, task, &mut list)),
-            (end, count),
-            "row {i}"
+            desk.value(Cell::Place { task }),
+            Ok(next),
+            "row {i}: the place"
         );
-        let place = machine.cell(&ram, Kind::Place, task, 0);
-        assert_eq!(rt; place.ok(), Some(next), "row {i}: the place");
-        held(rt, &machine, &ram, i, row);
+        assert_eq!(rt; desk.value(cell), Ok(value), "row {i}: the cell");
         Ok(())
     }
 
@@ -335,64 +362,11 @@ mod tests {
         Ok(())
     }
 
-    // The kind, task, number and touch of an entry.
-    fn numbers(entry: Entry<Cell>) -> [u16; 4] {
-        let cell = entry.cell();
-        [
-            cell.kind().number(),
-            cell.task(),
-            cell.number(),
-            entry.touch_number(),
-        ]
-    }
-
     // Whether a list has these entries, and no other was written.
-    fn listed(rt: &impl Abort, list: &[Entry<Cell>], entries: &[[u16; 4]]) {
+    fn listed(rt: &impl Abort, list: &[Entry<Cell>], entries: &[Entry<Cell>]) {
         for (i, entry) in list.iter().enumerate() {
-            let want = match entries.get(i) {
-                Some(wanted) => *wanted,
-                None => numbers(MARK),
-            };
-            assert_eq!(rt; numbers(*entry), want, "entry {i}");
-        }
-    }
-
-    // An event, with the address, line or task that it names.
-    #[derive(Clone, Copy)]
-    enum Event {
-        Place(u16),
-        Feed(u16),
-        Tick,
-        Start(u16),
-        Kill(u16),
-        Abort(u16),
-        Turn(u16),
-    }
-
-    fn send(
-        machine: &mut Desk,
-        ram: &mut [u16],
-        event: Event,
-        list: &mut [Entry<Cell>],
-    ) -> (Said, usize) {
-        told(match event {
-            Event::Place(address) => machine.place(ram, address, 0xFFFF, list),
-            Event::Feed(line) => machine.feed(ram, line, true, list),
-            Event::Tick => machine.tick(ram, list),
-            Event::Start(task) => machine.start(ram, task, 0x10, list),
-            Event::Kill(task) => machine.kill(ram, task, list),
-            Event::Abort(task) => machine.abort(ram, task, list),
-            Event::Turn(task) => machine.turn(ram, task, list),
-        })
-    }
-
-    // A refusal that names neither task nor place.
-    fn plain(number: u16) -> Said {
-        Said::Refused {
-            number,
-            task: 0,
-            place: 0,
-            operand: 0,
+            let wanted = entries.get(i).copied().unwrap_or(MARK);
+            assert_eq!(rt; *entry, wanted, "entry {i}");
         }
     }
 
@@ -400,112 +374,105 @@ mod tests {
     fn refuses(
         rt: &impl Abort,
         heap: Global,
-        event: Event,
+        ask: Ask,
         size: usize,
         room: usize,
         number: u16,
         why: &str,
     ) -> Result<(), Fail> {
-        let mut ram = vec![in heap; 0u16; size]?;
         let mut list = vec![in heap; MARK; room]?;
-        let mut machine = new_machine();
-        let end = send(&mut machine, &mut ram, event, &mut list);
-        assert_eq!(rt; end, (plain(number), 0), "{why}");
+        let mut desk = Desk::new(heap, size)?;
+        let end = desk.call(ask, &mut list);
+        assert_eq!(rt; end, Err(Refused::from(reason(number)?)), "{why}");
         listed(rt, &list, &[]);
-        let blank = vec![in heap; 0u16; size]?;
         assert!(rt;
-            machine.same_cells(&ram, &new_machine(), &blank),
+            desk.same_cells(&Desk::new(heap, size)?),
             "a cell was changed"
         );
         Ok(())
     }
 
-    const KNOWN: [Event; 7] = [
-        Event::Place(0xFF),
-        Event::Feed(255),
-        Event::Tick,
-        Event::Start(31),
-        Event::Kill(31),
-        Event::Abort(31),
-        Event::Turn(31),
+    const KNOWN: [Ask; 7] = [
+        Ask::Place {
+            address: 0xFF,
+            word: 0xFFFF,
+        },
+        Ask::Feed {
+            line: 255,
+            on: true,
+        },
+        Ask::Tick,
+        Ask::Start {
+            task: 31,
+            address: 0x10,
+        },
+        Ask::Kill { task: 31 },
+        Ask::Abort { task: 31 },
+        Ask::Turn { task: 31 },
     ];
 
-    const UNKNOWN: [Event; 6] = [
-        Event::Place(0x100),
-        Event::Feed(256),
-        Event::Start(32),
-        Event::Kill(32),
-        Event::Abort(32),
-        Event::Turn(32),
+    const UNKNOWN: [Ask; 6] = [
+        Ask::Place {
+            address: 0x100,
+            word: 0xFFFF,
+        },
+        Ask::Feed {
+            line: 256,
+            on: true,
+        },
+        Ask::Start {
+            task: 32,
+            address: 0x10,
+        },
+        Ask::Kill { task: 32 },
+        Ask::Abort { task: 32 },
+        Ask::Turn { task: 32 },
     ];
 
     #[test]
     fn first_refusals(rt: HostRuntime) -> Result<(), Fail> {
-        for event in KNOWN {
-            refuses(&rt, rt.alloc(), event, 255, 200, 1, "RAM too short")?;
-            refuses(&rt, rt.alloc(), event, 65537, 200, 1, "RAM too long")?;
-            refuses(&rt, rt.alloc(), event, 255, 199, 1, "RAM before the list")?;
-            refuses(&rt, rt.alloc(), event, 256, 199, 3, "a short list")?;
-            refuses(&rt, rt.alloc(), event, 65536, 0, 3, "an empty list")?;
+        for ask in KNOWN {
+            for (size, room, number, why) in [
+                (255, 200, 1, "RAM too short"),
+                (65537, 200, 1, "RAM too long"),
+                (255, 199, 1, "RAM before the list"),
+                (256, 199, 3, "a short list"),
+                (65536, 0, 3, "an empty list"),
+            ] {
+                refuses(&rt, rt.alloc(), ask, size, room, number, why)?;
+            }
         }
-        for event in UNKNOWN {
-            refuses(&rt, rt.alloc(), event, 255, 199, 1, "RAM before the name")?;
-            refuses(
-                &rt,
-                rt.alloc(),
-                event,
-                256,
-                199,
-                2,
-                "the name before the list",
-            )?;
-            refuses(&rt, rt.alloc(), event, 256, 200, 2, "the name")?;
+        for ask in UNKNOWN {
+            for (size, room, number, why) in [
+                (255, 199, 1, "RAM before the name"),
+                (256, 199, 2, "the name before the list"),
+                (256, 200, 2, "the name"),
+            ] {
+                refuses(&rt, rt.alloc(), ask, size, room, number, why)?;
+            }
         }
         Ok(())
     }
 
     #[test]
     fn second_start(rt: HostRuntime) -> Result<(), Fail> {
-        let ram = vec![in rt.alloc(); 0u16; 256]?;
-        let mut machine = new_machine();
-        let mut other = new_machine();
+        let mut desk = Desk::new(rt.alloc(), 256)?;
+        let mut other = Desk::new(rt.alloc(), 256)?;
+        desk.start(&rt, 3, 0x10);
+        other.start(&rt, 3, 0x10);
         let mut list = [MARK; 200];
+        let again = Ask::Start {
+            task: 3,
+            address: 0x20,
+        };
+        let refusal = Refusal::from(reason(4)?);
         assert_eq!(rt;
-            told(machine.start(&ram, 3, 0x10, &mut list)),
-            (Said::Done, 7)
+            desk.call(again, &mut list),
+            Err(Refused { refusal, count: 1 })
         );
-        assert_eq!(rt;
-            told(other.start(&ram, 3, 0x10, &mut list)),
-            (Said::Done, 7)
-        );
-        list = [MARK; 200];
-        assert_eq!(rt;
-            told(machine.start(&ram, 3, 0x20, &mut list)),
-            (plain(4), 1)
-        );
-        listed(&rt, &list, &[[3, 3, 0, 0]]);
-        assert!(rt;
-            machine.same_cells(&ram, &other, &ram),
-            "a cell was changed"
-        );
+        listed(&rt, &list, &[Read(Cell::State { task: 3 })]);
+        assert!(rt; desk.same_cells(&other), "a cell was changed");
         Ok(())
-    }
-
-    // After an event the list has these entries.
-    fn lists(
-        rt: &impl Abort,
-        machine: &mut Desk,
-        ram: &mut [u16],
-        event: Event,
-        answer: Said,
-        entries: &[[u16; 4]],
-    ) {
-        let mut list = [MARK; 200];
-        assert_eq!(rt;
-            send(machine, ram, event, &mut list),
-            (answer, entries.len())
-        );
-        listed(rt, &list, entries);
     }
 
     // Task 2 has a turn at 0010.
@@ -513,110 +480,132 @@ mod tests {
         rt: &impl Abort,
         heap: Global,
         words: [u16; 3],
-        answer: Said,
-        entries: &[[u16; 4]],
+        answer: Answer,
+        entries: &[Entry<Cell>],
     ) -> Result<(), Fail> {
-        let mut ram = vec![in heap; 0u16; 256]?;
-        let mut machine = new_machine();
-        let mut list = [MARK; 200];
-        load(&mut machine, &mut ram, 0x10, words, &mut list);
-        assert_eq!(rt;
-            told(machine.start(&ram, 2, 0x10, &mut list)),
-            (Said::Done, 7)
-        );
-        lists(rt, &mut machine, &mut ram, Event::Turn(2), answer, entries);
+        let mut desk = Desk::new(heap, 256)?;
+        desk.load(0x10, words);
+        desk.start(rt, 2, 0x10);
+        desk.lists(rt, Ask::Turn { task: 2 }, answer, entries);
         Ok(())
     }
 
     // Entries of task 2: its state, delay and place are read, and its place is changed.
-    const S: [u16; 4] = [3, 2, 0, 0];
+    const S: Entry<Cell> = Read(Cell::State { task: 2 });
 
-    const D: [u16; 4] = [4, 2, 0, 0];
+    const D: Entry<Cell> = Read(Cell::Delay { task: 2 });
 
-    const P: [u16; 4] = [2, 2, 0, 0];
+    const P: Entry<Cell> = Read(Cell::Place { task: 2 });
 
-    const Q: [u16; 4] = [2, 2, 0, 1];
+    const Q: Entry<Cell> = Changed(Cell::Place { task: 2 });
 
     // The words from 0010 on are read.
-    const W0: [u16; 4] = [0, 0, 0x10, 0];
+    const W0: Entry<Cell> = Read(Cell::Ram { address: 0x10 });
 
-    const W1: [u16; 4] = [0, 0, 0x11, 0];
+    const W1: Entry<Cell> = Read(Cell::Ram { address: 0x11 });
 
-    const W2: [u16; 4] = [0, 0, 0x12, 0];
+    const W2: Entry<Cell> = Read(Cell::Ram { address: 0x12 });
+
+    // A register of task 2.
+    fn register(number: u8) -> Cell {
+        Cell::Register { task: 2, number }
+    }
 
     #[test]
     fn trails_of_turns(rt: HostRuntime) -> Result<(), Fail> {
         let heap = rt.alloc();
+        let input = Cell::Input { line: 7 };
+        let output = Cell::Output { line: 5 };
+        let flag = Cell::Flag { line: 5 };
         // SBIT of output 5
-        let set = [S, D, P, W0, W1, [7, 0, 5, 1], Q];
-        turn(&rt, heap, [0x120D, 5, 0], Said::Ran, &set)?;
+        let set = [S, D, P, W0, W1, Changed(output), Q];
+        turn(&rt, heap, [0x120D, 5, 0], Answer::Ran, &set)?;
         // TBR1 of input 7
-        let tested = [S, D, P, W0, W1, W2, [6, 0, 7, 0], Q];
-        turn(&rt, heap, [0x110C, 0x40, 7], Said::Ran, &tested)?;
+        let tested = [S, D, P, W0, W1, W2, Read(input), Q];
+        turn(&rt, heap, [0x110C, 0x40, 7], Answer::Ran, &tested)?;
         // IBIT of flag 5
-        let turned = [S, D, P, W0, W1, [5, 0, 5, 0], [5, 0, 5, 1], Q];
-        turn(&rt, heap, [0x140E, 5, 0], Said::Ran, &turned)?;
+        let turned = [S, D, P, W0, W1, Read(flag), Changed(flag), Q];
+        turn(&rt, heap, [0x140E, 5, 0], Answer::Ran, &turned)?;
         // THT0 of the input that R44 names
-        let halted = [S, D, P, W0, W1, [1, 2, 0x44, 0], [6, 0, 0, 0]];
-        turn(&rt, heap, [0x153C, 0x44, 0], Said::Halted, &halted)?;
+        let named = Read(Cell::Input { line: 0 });
+        let halted = [S, D, P, W0, W1, Read(register(0x44)), named];
+        turn(&rt, heap, [0x153C, 0x44, 0], Answer::Halted, &halted)?;
         // BRA and JSKI
-        turn(
-            &rt,
-            heap,
-            [0x5000, 0x40, 0],
-            Said::Ran,
-            &[S, D, P, W0, W1, Q],
-        )?;
-        let stopped = [S, D, P, W0, [3, 2, 0, 1], Q];
-        turn(&rt, heap, [0x5500, 0, 0], Said::Ran, &stopped)
-    }
-
-    // The reads of a tick while all timers and delays are zero.
-    fn ticked() -> [[u16; 4]; 64] {
-        let mut entries = [[0; 4]; 64];
-        for t in 0..32u16 {
-            entries[t as usize * 2] = [1, t, 0x78, 0];
-            entries[t as usize * 2 + 1] = [4, t, 0, 0];
-        }
-        entries
+        let moved = [S, D, P, W0, W1, Q];
+        turn(&rt, heap, [0x5000, 0x40, 0], Answer::Ran, &moved)?;
+        let stopped = [S, D, P, W0, Changed(Cell::State { task: 2 }), Q];
+        turn(&rt, heap, [0x5500, 0, 0], Answer::Ran, &stopped)
     }
 
     #[test]
     fn trails_of_events(rt: HostRuntime) -> Result<(), Fail> {
-        let mut ram = vec![in rt.alloc(); 0u16; 256]?;
-        let mut m = new_machine();
-        let done = Said::Done;
-        lists(
-            &rt,
-            &mut m,
-            &mut ram,
-            Event::Place(9),
-            done,
-            &[[0, 0, 9, 1]],
-        );
-        lists(&rt, &mut m, &mut ram, Event::Feed(9), done, &[[6, 0, 9, 1]]);
-        lists(&rt, &mut m, &mut ram, Event::Tick, done, &ticked());
-        lists(&rt, &mut m, &mut ram, Event::Turn(2), Said::Idle, &[S]);
-        lists(&rt, &mut m, &mut ram, Event::Abort(2), done, &[S]);
-        let state = [3, 2, 0, 1];
-        let depth = [1, 2, 0x77, 1];
-        let timer = [1, 2, 0x78, 1];
-        let abort = [1, 2, 0x7B, 1];
-        let started = [S, state, Q, [4, 2, 0, 1], depth, timer, abort];
-        lists(&rt, &mut m, &mut ram, Event::Start(2), done, &started);
-        let stopped = [S, [1, 2, 0x7B, 0], state];
-        lists(&rt, &mut m, &mut ram, Event::Abort(2), done, &stopped);
-        lists(&rt, &mut m, &mut ram, Event::Kill(2), done, &[state]);
+        let mut desk = Desk::new(rt.alloc(), 256)?;
+        let done = Answer::Done;
+        let place = Ask::Place {
+            address: 9,
+            word: 0xFFFF,
+        };
+        desk.lists(&rt, place, done, &[Changed(Cell::Ram { address: 9 })]);
+        let feed = Ask::Feed { line: 9, on: true };
+        desk.lists(&rt, feed, done, &[Changed(Cell::Input { line: 9 })]);
+        // a tick reads all timers and delays, which are zero
+        let ticked: Vec<Entry<Cell>> = (0..32)
+            .flat_map(|task| {
+                let timer = Cell::Register { task, number: 0x78 };
+                [Read(timer), Read(Cell::Delay { task })]
+            })
+            .collect(rt.alloc())?;
+        desk.lists(&rt, Ask::Tick, done, &ticked);
+        desk.lists(&rt, Ask::Turn { task: 2 }, Answer::Idle, &[S]);
+        desk.lists(&rt, Ask::Abort { task: 2 }, done, &[S]);
+        let start = Ask::Start {
+            task: 2,
+            address: 0x10,
+        };
+        let state = Changed(Cell::State { task: 2 });
+        let delay = Changed(Cell::Delay { task: 2 });
+        let depth = Changed(register(0x77));
+        let timer = Changed(register(0x78));
+        let abort = Changed(register(0x7B));
+        desk.lists(&rt, start, done, &[S, state, Q, delay, depth, timer, abort]);
+        let stopped = [S, Read(register(0x7B)), state];
+        desk.lists(&rt, Ask::Abort { task: 2 }, done, &stopped);
+        desk.lists(&rt, Ask::Kill { task: 2 }, done, &[state]);
         Ok(())
+    }
+
+    // The kind, task, number and touch of an entry.
+    #[test]
+    fn numbers(rt: HostRuntime) {
+        for (entry, numbers) in [
+            (W0, [0, 0, 0x10, 0]),
+            (Read(register(0x44)), [1, 2, 0x44, 0]),
+            (P, [2, 2, 0, 0]),
+            (Q, [2, 2, 0, 1]),
+            (S, [3, 2, 0, 0]),
+            (D, [4, 2, 0, 0]),
+            (Changed(Cell::Flag { line: 5 }), [5, 0, 5, 1]),
+            (Read(Cell::Input { line: 7 }), [6, 0, 7, 0]),
+            (Changed(Cell::Output { line: 5 }), [7, 0, 5, 1]),
+        ] {
+            let cell = entry.cell();
+            let told = [
+                cell.kind().number(),
+                cell.task(),
+                cell.number(),
+                entry.touch_number(),
+            ];
+            assert_eq!(rt; told, numbers);
+        }
     }
 
     // A question refuses by 1, then by 2, and never for want of a list.
     #[test]
-    fn questions(rt: HostRuntime) -> Result<(), Fail> {
+    fn questions(rt: HostRuntime) {
         let short = [0u16; 255];
         let ram = [7u16; 256];
-        let machine = new_machine();
-        assert_eq!(rt; machine.cell(&ram, Kind::Ram, 0, 255).ok(), Some(7));
+        let machine = Machine::new(Packed::new(), Packed::new());
+        assert_eq!(rt; machine.cell(&ram, Kind::Ram, 0, 255), Ok(7));
         for (kind, task, number) in [
             (Kind::Ram, 0, 256),
             (Kind::Ram, 1, 0),
@@ -629,15 +618,10 @@ mod tests {
             (Kind::Input, 1, 0),
             (Kind::Output, 0, 256),
         ] {
-            match machine.cell(&ram, kind, task, number) {
-                Ok(_) => return Err(Fail::new("no such cell")),
-                Err(no) => assert_eq!(rt; no.reason.number(), 2),
-            }
-            match machine.cell(&short, kind, task, number) {
-                Ok(_) => return Err(Fail::new("no such RAM")),
-                Err(no) => assert_eq!(rt; no.reason.number(), 1),
+            for (ram, refusal) in [(ram.as_slice(), 2), (short.as_slice(), 1)] {
+                let asked = machine.cell(ram, kind, task, number);
+                assert_eq!(rt; asked.map_err(|no| no.reason.number()), Err(refusal));
             }
         }
-        Ok(())
     }
 }

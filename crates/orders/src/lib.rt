@@ -25,8 +25,8 @@ mod tests {
         Event { ask, room: 200 }
     }
 
-    fn place(address: u16, word: u16) -> Event {
-        event(Ask::Place { address, word })
+    fn place(address: u16, word: u16) -> Ask {
+        Ask::Place { address, word }
     }
 
     // Task 0 switches output 4 on, off, and inverts it; task 1 halts until input 8 is on; task 2 inverts flag 7.
@@ -42,32 +42,34 @@ mod tests {
             place(0x21, 0x0800),
             place(0x30, 0x14CE),
             place(0x31, 0x0700),
-            event(Ask::Start {
+            Ask::Start {
                 task: 0,
                 address: 0x10,
-            }),
-            event(Ask::Start {
+            },
+            Ask::Start {
                 task: 1,
                 address: 0x20,
-            }),
-            event(Ask::Start {
+            },
+            Ask::Start {
                 task: 2,
                 address: 0x30,
-            }),
+            },
         ]
+        .map(event)
     }
 
     // The turns of task 0 clash with one another, and the feed with the turn of task 1: 420 of the 5,040 orders keep both.
     fn seven() -> [Event; 7] {
         [
-            event(Ask::Turn { task: 0 }),
-            event(Ask::Turn { task: 1 }),
-            event(Ask::Turn { task: 0 }),
-            event(Ask::Feed { line: 8, on: true }),
-            event(Ask::Turn { task: 2 }),
-            event(Ask::Turn { task: 0 }),
-            event(Ask::Tick),
+            Ask::Turn { task: 0 },
+            Ask::Turn { task: 1 },
+            Ask::Turn { task: 0 },
+            Ask::Feed { line: 8, on: true },
+            Ask::Turn { task: 2 },
+            Ask::Turn { task: 0 },
+            Ask::Tick,
         ]
+        .map(event)
     }
 
     fn blank() -> Report {
