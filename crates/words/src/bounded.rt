@@ -26,12 +26,9 @@ impl<const N: u8> Below<N> {
     pub fn new(number: u16) -> Option<Below<N>>
         ensures { result ≡ below N number }
     {
-        if number < u16::from(N) {
-            Some(Below {
-                number: number as u8,
-            })
-        } else {
-            None
+        match u8::try_from(number) {
+            Ok(number) if number < N => Some(Below { number }),
+            _ => None,
         }
     }
 

@@ -66,11 +66,13 @@ pub struct Refusal {
 
 impl fmt::Display for Refusal {
     fn fmt<W: fmt::Write>(&self, f: &mut fmt::Formatter<W>) -> fmt::Result {
-        let number = self.reason.number();
-        let reason = self.reason;
-        let task = self.task;
-        let place = self.place;
-        let operand = self.operand;
+        let Refusal {
+            reason,
+            task,
+            place,
+            operand,
+        } = *self;
+        let number = reason.number();
         write!(
             f,
             "refused by {number} ({reason}), task {task}, place {place:04X}, operand {operand}"
@@ -114,7 +116,7 @@ impl Site {
     }
 }
 
-// The lowest four bits.
+// The lowest four bits, by a mask, as all words are taken apart.
 fn low_digit(word: u16) -> u8
     ensures { result ≡ word % 16 }
 {
@@ -141,7 +143,8 @@ impl From<u16> for Head {
     }
 }
 
-// The word after the head of a command of two pairs: its high byte is fixed, and its modes are those of the second pair.
+// The word after the head of a command of two pairs: its high byte is fixed, and its modes are those of the second pair. It
+// is no Head: one type for both would call a byte that must be 00 a code.
 #[derive(Clone, Copy, PartialEq, Eq, Debug)]
 pub struct Control {
     pub fixed: u8,
@@ -181,9 +184,9 @@ impl Role {
     {
         match self {
             Role::Unused => mode == 0,
-            Role::Offset => mode == 0 || mode == 3 || mode == 0xC || mode == 0xD,
-            Role::ReadBase => mode == 0xC || mode == 0xD || mode == 0xE,
-            Role::WrittenBase => mode == 0xD || mode == 0xE,
+            Role::Offset => matches!(mode, 0 | 3 | 0xC | 0xD),
+            Role::ReadBase => matches!(mode, 0xC | 0xD | 0xE),
+            Role::WrittenBase => matches!(mode, 0xD | 0xE),
         }
     }
 
@@ -239,11 +242,7 @@ const BARE: Layout = Layout {
     second: None,
 };
 
-const JUMP: Layout = Layout {
-    jump: true,
-    first: None,
-    second: None,
-};
+const JUMP: Layout = Layout { jump: true, ..BARE };
 
 // One bit, on a base that is only read or on one that is written.
 const READ_BIT: Option<Pair> = Some(Pair {
@@ -256,25 +255,22 @@ const WRITTEN_BIT: Option<Pair> = Some(Pair {
     destination: Role::WrittenBase,
 });
 
-const BIT_JUMP: Layout = Layout {
-    jump: true,
-    first: READ_BIT,
-    second: None,
-};
-
 const BIT_READ: Layout = Layout {
-    jump: false,
     first: READ_BIT,
-    second: None,
+    ..BARE
 };
 
 const BIT_WRITE: Layout = Layout {
-    jump: false,
     first: WRITTEN_BIT,
-    second: None,
+    ..BARE
 };
 
-// The layout by code, for the codes from 10 to 17 and from 50 to 57.
+const BIT_JUMP: Layout = Layout {
+    first: READ_BIT,
+    ..JUMP
+};
+
+// The layout by code, for the codes from 10 to 17 and from 50 to 57: constant tables that the code indexes, for the speed.
 const BIT_ROWS: [Layout; 8] = [
     BIT_JUMP, BIT_JUMP, BIT_WRITE, BIT_WRITE, BIT_WRITE, BIT_READ, BIT_READ, BARE,
 ];
@@ -285,8 +281,8 @@ pub fn layout_of(code: u8) -> Layout
     ensures { result ≡ layout code }
 {
     match code {
-        0x10..=0x17 => BIT_ROWS[(code - 0x10) as usize],
-        0x50..=0x57 => JUMP_ROWS[(code - 0x50) as usize],
+        0x10..=0x17 => BIT_ROWS[usize::from(code - 0x10)],
+        0x50..=0x57 => JUMP_ROWS[usize::from(code - 0x50)],
         _ => BARE,
     }
 }
@@ -308,7 +304,8 @@ pub enum Command {
     EndTask,
 }
 
-// Chooses the command, or says what is wrong with its head.
+// Chooses the command, or says what is wrong with its head: one match over code ranges, guarded by what the modes say, so
+// that code and modes are decided in one place.
 pub fn decode(head: Head, site: Site) -> Result<Command, Refusal>
     ensures { result ≡ decoded head site }
 {
