@@ -1,6 +1,6 @@
 -- How long the trail of a tree can be.
-use Rattle.std.proofs.Common.{ℕ, ◌+◌, ◌≤◌, Bool, true, false, cond, length, Ok, Err, Result, ap, arith, length-append}
-use Rattle.law.specs.Trees.{ret, refuse, look, change, bind, Contents, Outcome, poke, go, go_on}
+use Rattle.std.proofs.Common.{ℕ, ◌+◌, ◌≤◌, Bool, true, false, cond, length, Ok, Err, Result, arith, length-append}
+use Rattle.law.specs.Trees.{ret, refuse, look, change, bind, Contents, poke, go, go_on}
 use Rattle.law.proofs.Single.{joining}
 use Rattle.words.specs.declared.Refusal.{Refusal}
 use Rattle.cells.specs.declared.Cell.{Cell}
@@ -33,11 +33,7 @@ module _ {A : Type 0} where
 
 module _ {A B : Type 0} where
   pub short_bind : {n k : ℕ} {m : Steps A} {f : A → Steps B} → Short n m → ((a : A) → Short k (f a)) → Short (n + k) (bind m f)
-  short_bind {n = n} {k = k} {m = m} {f = f} h g = record {
-    is = λ s.
-        rw (ap (λ (o : Outcome Cell B Refusal). length o.trail) (joining same m f s))
-        (at (go same m s).end s);
-  }
+  short_bind {n = n} {k = k} {m = m} {f = f} h g = record { is = λ s. rw (joining same m f s) (at (go same m s).end s) }
     where
       at : (r : Result A Refusal) (s : Contents Cell) → length (go_on same r (go same m s).trail (go same m s).after f).trail ≤ n + k
       at (Ok a) s =

@@ -1,14 +1,13 @@
 -- How code follows a tree, a step at a time.
-use Rattle.std.proofs.Common.{◌≡◌, ℕ, List, [], ◌∷◌, ◌++◌, IsErrAnd, Ok, Err, Result, sym, refl, ap, ◌∙◌, subst, ap₂}
+use Rattle.std.proofs.Common.{◌≡◌, ℕ, List, [], ◌∷◌, ◌++◌, IsErrAnd, Ok, Err, Result, refl, ap, ◌∙◌, ap₂}
 use Rattle.law.specs.declared.Entry.{Entry}
 use Rattle.law.specs.declared.Entry.TheVariants.{Read, Changed}
-use Rattle.law.specs.Trees.{ret, refuse, look, change, Contents, Outcome, poke, go, go_on, bind, only_reads}
+use Rattle.law.specs.Trees.{ret, refuse, look, change, Contents, poke, go, go_on, bind, only_reads}
 use Rattle.law.proofs.Single.{joining}
 use Rattle.words.specs.declared.Refusal.{Refusal}
 use Rattle.cells.specs.declared.Cell.{Cell}
 use Rattle.cells.specs.declared.Trail.{Trail}
 use Rattle.cells.specs.Cells.{same}
-use Rattle.cells.specs.Trails.{Grows}
 use Rattle.std.proofs.lemmas.Result.{err_from_is_err_and}
 use Rattle.cells.specs.Runs.{Steps, lift, Sees, Pokes, Finds, Goes}
 use Rattle.cells.proofs.Noting.{grows_none, grows_both}
@@ -18,21 +17,11 @@ reads_both [] u = refl
 reads_both (Read c ∷ t) u = ap (λ (l : List (Entry Cell)). Read c ∷ l) (reads_both t u)
 reads_both (Changed c ∷ t) u = reads_both t u
 
--- the run of a tree joined to another, where the first ended in an answer
-joined : {A B : Type 0} (m : Steps A) (f : A → Steps B) (s s' : Contents Cell) (a : A)
-    → (go same m s).end ≡ Ok a → (go same m s).after ≡ s'
-    → go same (bind m f) s ≡ go_on same (Ok a) (go same m s).trail s' f
-joined m f s s' a e k =
-    joining same m f s
-    ∙ ap₂ (λ (r : Result _ Refusal) (z : Contents Cell). go_on same r (go same m s).trail z f) e k
-
--- where it ended in a refusal
-stopped : {A B : Type 0} (m : Steps A) (f : A → Steps B) (s s' : Contents Cell) (r : Refusal)
-    → (go same m s).end ≡ Err r → (go same m s).after ≡ s'
-    → go same (bind m f) s ≡ record { end = Err r; trail = (go same m s).trail; after = s' }
-stopped m f s s' r e k =
-    joining same m f s
-    ∙ ap₂ (λ (x : Result _ Refusal) (z : Contents Cell). go_on same x (go same m s).trail z f) e k
+-- the run of a tree joined to another, by how the first ended
+joined : {A B : Type 0} (m : Steps A) (f : A → Steps B) (s s' : Contents Cell) (r : Result A Refusal)
+    → (go same m s).end ≡ r → (go same m s).after ≡ s'
+    → go same (bind m f) s ≡ go_on same r (go same m s).trail s' f
+joined m f s s' r e k = rw (joining same m f s, e, k)
 
 module _ {A : Type 0} where
   pub find_ret : {a : A} {s : Contents Cell} {t : Trail} → Finds (ret a) s t (Ok a) t
@@ -44,7 +33,7 @@ module _ {A : Type 0} where
   pub find_look : {c : Cell} {k : ℕ → Steps A} {s : Contents Cell} {v : ℕ} {t t1 t' : Trail} {r : Result A Refusal}
       → Sees s c v t t1 → Finds (k v) s t1 r t' → Finds (look c k) s t r t'
   find_look {c = c} {k = k} {s = s} {t1 = t1} {t' = t'} {r = r} see f =
-      let g : Finds (k (s c)) s t1 r t' = subst (λ (n : ℕ). Finds (k n) s t1 r t') see.value f in
+      let g : Finds (k (s c)) s t1 r t' = rw see.value at f in
       record {
         ends = g.ends;
         after = g.after;
@@ -58,61 +47,53 @@ module _ {A : Type 0} where
   pub go_look : {c : Cell} {k : ℕ → Steps A} {s s' : Contents Cell} {v : ℕ} {t t1 t' : Trail} {a : A}
       → Sees s c v t t1 → Goes (k v) s t1 a s' t' → Goes (look c k) s t a s' t'
   go_look {c = c} {k = k} {s = s} {s' = s'} {t1 = t1} {t' = t'} {a = a} see f =
-      let g : Goes (k (s c)) s t1 a s' t' = subst (λ (n : ℕ). Goes (k n) s t1 a s' t') see.value f in
+      let g : Goes (k (s c)) s t1 a s' t' = rw see.value at f in
       record { ends = g.ends; after = g.after; grows = grows_both (Read c ∷ []) (go same (k (s c)) s).trail see.grows g.grows }
 
   pub go_change : {c : Cell} {v : ℕ} {m : Steps A} {s s1 s' : Contents Cell} {t t1 t' : Trail} {a : A}
       → Pokes s c v s1 t t1 → Goes m s1 t1 a s' t' → Goes (change c v m) s t a s' t'
   go_change {c = c} {v = v} {m = m} {s = s} {s' = s'} {t1 = t1} {t' = t'} {a = a} p f =
-      let g : Goes m (poke same c v s) t1 a s' t' = subst (λ (z : Contents Cell). Goes m z t1 a s' t') (sym p.value) f in
+      let g : Goes m (poke same c v s) t1 a s' t' = rw (p.value) f in
       record { ends = g.ends; after = g.after; grows = grows_both (Changed c ∷ []) (go same m (poke same c v s)).trail p.grows g.grows }
 
 module _ {A B : Type 0} where
   pub find_bind : {m : Steps A} {s : Contents Cell} {t t1 t' : Trail} {a : A} {r : Result B Refusal}
       → Finds m s t (Ok a) t1 → (f : A → Steps B) → Finds (f a) s t1 r t' → Finds (bind m f) s t r t'
-  find_bind {m = m} {s = s} {t = t} {t1 = t1} {t' = t'} {a = a} {r = r} p f q =
-      let is = joined m f s s a p.ends p.after in
+  find_bind {m = m} {s = s} {a = a} p f q =
+      let is = joined m f s s (Ok a) p.ends p.after in
       record {
-        ends = ap (λ (o : Outcome Cell B Refusal). o.end) is ∙ q.ends;
-        after = ap (λ (o : Outcome Cell B Refusal). o.after) is ∙ q.after;
-        reads = subst (λ (l : List (Entry Cell)). only_reads l ≡ l) (sym (ap (λ (o : Outcome Cell B Refusal). o.trail) is))
-            (reads_both (go same m s).trail (go same (f a) s).trail ∙ ap₂ ◌++◌ p.reads q.reads);
-        grows = subst (λ (l : List (Entry Cell)). Grows l t t') (sym (ap (λ (o : Outcome Cell B Refusal). o.trail) is))
-            (grows_both (go same m s).trail (go same (f a) s).trail p.grows q.grows);
+        ends = rw is q.ends;
+        after = rw is q.after;
+        reads = rw is (reads_both (go same m s).trail (go same (f a) s).trail ∙ ap₂ ◌++◌ p.reads q.reads);
+        grows = rw is (grows_both (go same m s).trail (go same (f a) s).trail p.grows q.grows);
       }
 
   pub find_stop : {m : Steps A} {s : Contents Cell} {t t1 : Trail} {r : Refusal}
       → Finds m s t (Err r) t1 → (f : A → Steps B) → Finds (bind m f) s t (Err r) t1
-  find_stop {m = m} {s = s} {t = t} {t1 = t1} {r = r} p f =
-      let is = stopped m f s s r p.ends p.after in
-      record {
-        ends = ap (λ (o : Outcome Cell B Refusal). o.end) is;
-        after = ap (λ (o : Outcome Cell B Refusal). o.after) is;
-        reads = subst (λ (l : List (Entry Cell)). only_reads l ≡ l) (sym (ap (λ (o : Outcome Cell B Refusal). o.trail) is)) p.reads;
-        grows = subst (λ (l : List (Entry Cell)). Grows l t t1) (sym (ap (λ (o : Outcome Cell B Refusal). o.trail) is)) p.grows;
-      }
+  find_stop {m = m} {s = s} {r = r} p f =
+      let is = joined m f s s (Err r) p.ends p.after in
+      record { ends = rw is; after = rw is; reads = rw is p.reads; grows = rw is p.grows }
 
   pub go_bind : {m : Steps A} {s s1 s' : Contents Cell} {t t1 t' : Trail} {a : A} {b : B}
       → Goes m s t a s1 t1 → (f : A → Steps B) → Goes (f a) s1 t1 b s' t' → Goes (bind m f) s t b s' t'
-  go_bind {m = m} {s = s} {s1 = s1} {t = t} {t' = t'} {a = a} p f q =
-      let is = joined m f s s1 a p.ends p.after in
+  go_bind {m = m} {s = s} {s1 = s1} {a = a} p f q =
+      let is = joined m f s s1 (Ok a) p.ends p.after in
       record {
-        ends = ap (λ (o : Outcome Cell B Refusal). o.end) is ∙ q.ends;
-        after = ap (λ (o : Outcome Cell B Refusal). o.after) is ∙ q.after;
-        grows = subst (λ (l : List (Entry Cell)). Grows l t t') (sym (ap (λ (o : Outcome Cell B Refusal). o.trail) is))
-            (grows_both (go same m s).trail (go same (f a) s1).trail p.grows q.grows);
+        ends = rw is q.ends;
+        after = rw is q.after;
+        grows = rw is (grows_both (go same m s).trail (go same (f a) s1).trail p.grows q.grows);
       }
 
 -- the same under other names: of what is returned, and of a part of the tree
 module _ {A : Type 0} {s : Contents Cell} {t t' : Trail} where
   pub find_out : {m : Steps A} {r r' : Result A Refusal} → r' ≡ r → Finds m s t r t' → Finds m s t r' t'
-  find_out {m = m} e p = subst (λ (x : Result A Refusal). Finds m s t x t') (sym e) p
+  find_out e p = rw e p
 
   pub find_at : {X : Type 0} {x y : X} {r : Result A Refusal} (m : X → Steps A) → x ≡ y → Finds (m x) s t r t' → Finds (m y) s t r t'
-  find_at {X = X} {r = r} m e p = subst (λ (z : X). Finds (m z) s t r t') e p
+  find_at m e p = rw (← e) p
 
   pub go_at : {X : Type 0} {x y : X} {a : A} {s' : Contents Cell} (m : X → Steps A) → x ≡ y → Goes (m x) s t a s' t' → Goes (m y) s t a s' t'
-  go_at {X = X} {a = a} {s' = s'} m e p = subst (λ (z : X). Goes (m z) s t a s' t') e p
+  go_at m e p = rw (← e) p
 
 module _ {A : Type 0} {s : Contents Cell} {t : Trail} where
   find_lift : (r : Result A Refusal) → Finds (lift r) s t r t

@@ -7,6 +7,7 @@ ghost use Rattle.cells.specs.Trails.{Fresh, Grows};
 
 use law::Entry;
 use std::fmt;
+use words::{RegisterNumber, TaskNumber};
 
 #[derive(Clone, Copy, PartialEq, Eq, Debug)]
 pub enum Kind {
@@ -57,25 +58,28 @@ pub enum Cell {
 }
 
 impl Cell {
-    // The cell of these numbers in a machine with `size` words of RAM, if there is one.
+    // The cell of these numbers in a machine with `size` words of RAM, if there is one. A number that a cell does not have
+    // must be 0.
     pub fn new(size: usize, kind: Kind, task: u16, number: u16) -> Option<Cell>
         ensures value { result ≡ named size kind task number }
         ensures there { IfSome result (There size) }
     {
+        let owner = TaskNumber::new(task).map(TaskNumber::get);
+        let line = u8::try_from(number).ok().filter(|_| task == 0);
         match kind {
-            Kind::Ram if task == 0 && (number as usize) < size => Some(Cell::Ram {
+            Kind::Ram if task == 0 && usize::from(number) < size => Some(Cell::Ram {
                 address: number,
             }),
-            Kind::Register if task < 32 && number < 128 => Some(Cell::Register {
-                task: task as u8,
-                number: number as u8,
-            }),
-            Kind::Place if task < 32 && number == 0 => Some(Cell::Place { task: task as u8 }),
-            Kind::State if task < 32 && number == 0 => Some(Cell::State { task: task as u8 }),
-            Kind::Delay if task < 32 && number == 0 => Some(Cell::Delay { task: task as u8 }),
-            Kind::Flag if task == 0 && number < 256 => Some(Cell::Flag { line: number as u8 }),
-            Kind::Input if task == 0 && number < 256 => Some(Cell::Input { line: number as u8 }),
-            Kind::Output if task == 0 && number < 256 => Some(Cell::Output { line: number as u8 }),
+            Kind::Register => {
+                let number = RegisterNumber::new(number)?.get();
+                owner.map(|task| Cell::Register { task, number })
+            }
+            Kind::Place if number == 0 => owner.map(|task| Cell::Place { task }),
+            Kind::State if number == 0 => owner.map(|task| Cell::State { task }),
+            Kind::Delay if number == 0 => owner.map(|task| Cell::Delay { task }),
+            Kind::Flag => line.map(|line| Cell::Flag { line }),
+            Kind::Input => line.map(|line| Cell::Input { line }),
+            Kind::Output => line.map(|line| Cell::Output { line }),
             _ => None,
         }
     }
@@ -166,7 +170,9 @@ impl<'a> Trail<'a> {
         self.count
     }
 
-    // Writes one entry more. A list that is full stays as it is.
+    // Writes one entry more. A list that is full stays as it is. By `get_mut` in place of a test and an index the proof does
+    // not close: its goals are then about values that only the checker names.
+    #[tactic(auto, using(crate::proofs::Noting::adds_one))]
     pub fn note(&mut self, entry: Entry<Cell>)
         ensures { Grows (entry ∷ []) self.old self.new }
     {
