@@ -37,29 +37,12 @@ pub struct Task {
 }
 
 impl Task {
+    // A function of its own, since the type of its argument tells the proof how many registers there are.
     fn set_register(&mut self, r: RegisterNumber, v: u16)
         ensures after { self.new ≡ with_register self.old r v }
         ensures within { r < length self.old.registers }
     {
-        self.registers[r.get() as usize] = v;
-    }
-
-    fn set_place(&mut self, v: u16)
-        ensures { self.new ≡ with_place self.old v }
-    {
-        self.place = v;
-    }
-
-    fn set_state(&mut self, v: State)
-        ensures { self.new ≡ with_state self.old v }
-    {
-        self.state = v;
-    }
-
-    fn set_delay(&mut self, v: u16)
-        ensures { self.new ≡ with_delay self.old v }
-    {
-        self.delay = v;
+        self.registers[usize::from(r.get())] = v;
     }
 }
 
@@ -99,7 +82,7 @@ impl Board {
     {
         let task = t.get();
         trail.note(Entry::Read(Cell::State { task }));
-        self.tasks[task as usize].state
+        self.tasks[usize::from(task)].state
     }
 
     pub fn read_place(&self, t: TaskNumber, trail: &mut Trail) -> u16
@@ -107,7 +90,7 @@ impl Board {
     {
         let task = t.get();
         trail.note(Entry::Read(Cell::Place { task }));
-        self.tasks[task as usize].place
+        self.tasks[usize::from(task)].place
     }
 
     pub fn read_delay(&self, t: TaskNumber, trail: &mut Trail) -> u16
@@ -115,7 +98,7 @@ impl Board {
     {
         let task = t.get();
         trail.note(Entry::Read(Cell::Delay { task }));
-        self.tasks[task as usize].delay
+        self.tasks[usize::from(task)].delay
     }
 
     pub fn read_register(&self, t: TaskNumber, r: RegisterNumber, trail: &mut Trail) -> u16
@@ -124,14 +107,14 @@ impl Board {
         let task = t.get();
         let number = r.get();
         trail.note(Entry::Read(Cell::Register { task, number }));
-        self.tasks[task as usize].registers[number as usize]
+        self.tasks[usize::from(task)].registers[usize::from(number)]
     }
 
     pub fn read_flag(&self, n: u8, trail: &mut Trail) -> bool
         ensures { (is os : List Bool) (ws : List ℕ) → Sees (view self.now is os ws) (Flag n) (level result) trail.old trail.new }
     {
         trail.note(Entry::Read(Cell::Flag { line: n }));
-        self.flags[n as usize]
+        self.flags[usize::from(n)]
     }
 
     pub fn write_state(&mut self, t: TaskNumber, v: State, trail: &mut Trail)
@@ -139,7 +122,7 @@ impl Board {
     {
         let task = t.get();
         trail.note(Entry::Changed(Cell::State { task }));
-        self.tasks[task as usize].set_state(v);
+        self.tasks[usize::from(task)].state = v;
     }
 
     pub fn write_place(&mut self, t: TaskNumber, v: u16, trail: &mut Trail)
@@ -147,7 +130,7 @@ impl Board {
     {
         let task = t.get();
         trail.note(Entry::Changed(Cell::Place { task }));
-        self.tasks[task as usize].set_place(v);
+        self.tasks[usize::from(task)].place = v;
     }
 
     pub fn write_delay(&mut self, t: TaskNumber, v: u16, trail: &mut Trail)
@@ -155,7 +138,7 @@ impl Board {
     {
         let task = t.get();
         trail.note(Entry::Changed(Cell::Delay { task }));
-        self.tasks[task as usize].set_delay(v);
+        self.tasks[usize::from(task)].delay = v;
     }
 
     pub fn write_register(&mut self, t: TaskNumber, r: RegisterNumber, v: u16, trail: &mut Trail)
@@ -164,14 +147,14 @@ impl Board {
         let task = t.get();
         let number = r.get();
         trail.note(Entry::Changed(Cell::Register { task, number }));
-        self.tasks[task as usize].set_register(r, v);
+        self.tasks[usize::from(task)].set_register(r, v);
     }
 
     pub fn write_flag(&mut self, n: u8, v: bool, trail: &mut Trail)
         ensures { (is os : List Bool) (ws : List ℕ) → Pokes (view self.old is os ws) (Flag n) (level v) (view self.new is os ws) trail.old trail.new }
     {
         trail.note(Entry::Changed(Cell::Flag { line: n }));
-        self.flags[n as usize] = v;
+        self.flags[usize::from(n)] = v;
     }
 }
 
@@ -180,7 +163,7 @@ pub fn read_ram(ram: &[u16], a: u16, trail: &mut Trail) -> u16
     ensures { (b : Board) (is os : List Bool) → Sees (view b is os ram.now) (Ram a) result trail.old trail.new }
 {
     trail.note(Entry::Read(Cell::Ram { address: a }));
-    ram[a as usize]
+    ram[usize::from(a)]
 }
 
 pub fn write_ram(ram: &mut [u16], a: u16, v: u16, trail: &mut Trail)
@@ -188,7 +171,7 @@ pub fn write_ram(ram: &mut [u16], a: u16, v: u16, trail: &mut Trail)
     ensures { (b : Board) (is os : List Bool) → Pokes (view b is os ram.old) (Ram a) v (view b is os ram.new) trail.old trail.new }
 {
     trail.note(Entry::Changed(Cell::Ram { address: a }));
-    ram[a as usize] = v;
+    ram[usize::from(a)] = v;
 }
 
 // A line of a card, or a flag.
@@ -214,11 +197,11 @@ impl<I: Card, O: Card> Store<I, O> {
         match line {
             Line::Input(n) => {
                 trail.note(Entry::Read(Cell::Input { line: n }));
-                self.inputs.read(n as u16)
+                self.inputs.read(u16::from(n))
             }
             Line::Output(n) => {
                 trail.note(Entry::Read(Cell::Output { line: n }));
-                self.outputs.read(n as u16)
+                self.outputs.read(u16::from(n))
             }
             Line::Flag(n) => self.board.read_flag(n, trail),
         }
@@ -230,11 +213,11 @@ impl<I: Card, O: Card> Store<I, O> {
         match line {
             Line::Input(n) => {
                 trail.note(Entry::Changed(Cell::Input { line: n }));
-                self.inputs.write(n as u16, on);
+                self.inputs.write(u16::from(n), on);
             }
             Line::Output(n) => {
                 trail.note(Entry::Changed(Cell::Output { line: n }));
-                self.outputs.write(n as u16, on);
+                self.outputs.write(u16::from(n), on);
             }
             Line::Flag(n) => self.board.write_flag(n, on, trail),
         }
@@ -247,14 +230,14 @@ impl<I: Card, O: Card> Store<I, O> {
     {
         let tasks = &self.board.tasks;
         match cell {
-            Cell::Ram { address } => ram[address as usize],
-            Cell::Register { task, number } => { tasks[task as usize].registers[number as usize] }
-            Cell::Place { task } => tasks[task as usize].place,
-            Cell::State { task } => tasks[task as usize].state.number(),
-            Cell::Delay { task } => tasks[task as usize].delay,
-            Cell::Flag { line } => u16::from(self.board.flags[line as usize]),
-            Cell::Input { line } => u16::from(self.inputs.read(line as u16)),
-            Cell::Output { line } => u16::from(self.outputs.read(line as u16)),
+            Cell::Ram { address } => ram[usize::from(address)],
+            Cell::Register { task, number } => { tasks[usize::from(task)].registers[usize::from(number)] }
+            Cell::Place { task } => tasks[usize::from(task)].place,
+            Cell::State { task } => tasks[usize::from(task)].state.number(),
+            Cell::Delay { task } => tasks[usize::from(task)].delay,
+            Cell::Flag { line } => u16::from(self.board.flags[usize::from(line)]),
+            Cell::Input { line } => u16::from(self.inputs.read(u16::from(line))),
+            Cell::Output { line } => u16::from(self.outputs.read(u16::from(line))),
         }
     }
 
