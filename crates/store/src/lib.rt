@@ -77,6 +77,7 @@ impl Board {
         self == other
     }
 
+    // Each kind of cell has a function that reads it and one that writes it, since each names a cell and a field of its own.
     pub fn read_state(&self, t: TaskNumber, trail: &mut Trail) -> State
         ensures { (is os : List Bool) (ws : List ℕ) → Sees (view self.now is os ws) (StateCell t) (state_number result) trail.old trail.new }
     {
@@ -231,7 +232,9 @@ impl<I: Card, O: Card> Store<I, O> {
         let tasks = &self.board.tasks;
         match cell {
             Cell::Ram { address } => ram[usize::from(address)],
-            Cell::Register { task, number } => { tasks[usize::from(task)].registers[usize::from(number)] }
+            Cell::Register { task, number } => {
+                tasks[usize::from(task)].registers[usize::from(number)]
+            }
             Cell::Place { task } => tasks[usize::from(task)].place,
             Cell::State { task } => tasks[usize::from(task)].state.number(),
             Cell::Delay { task } => tasks[usize::from(task)].delay,

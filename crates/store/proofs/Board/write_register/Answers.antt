@@ -1,4 +1,4 @@
-use Rattle.std.proofs.Common.{refl, rules}
+use Rattle.std.proofs.Common.{rules}
 use Rattle.store.proofs.Views.{poke_register}
 use Rattle.store.proofs.Board.write_register.Goals as goal
 
