@@ -8,6 +8,7 @@ use Rattle.words.specs.declared.Refusal.{Refusal}
 use Rattle.cells.specs.declared.Cell.{Cell}
 use Rattle.cells.specs.declared.Trail.{Trail}
 use Rattle.cells.specs.Cells.{same}
+use Rattle.std.specs.Result.{result_map_both}
 use Rattle.std.proofs.lemmas.Result.{err_from_is_err_and}
 use Rattle.cells.specs.Runs.{Steps, lift, Sees, Pokes, Finds, Goes}
 use Rattle.cells.proofs.Noting.{grows_none, grows_both}
@@ -106,6 +107,12 @@ module _ {A : Type 0} {s : Contents Cell} {t : Trail} where
 
   pub find_value : {a b : A} → b ≡ a → Finds (ret a) s t (Ok b) t
   find_value e = find_out (ap Ok e) find_ret
+
+-- a value that is mapped
+pub find_map : {A B : Type 0} {m : Steps A} {s : Contents Cell} {t t' : Trail} (f : A → B) (r : Result A Refusal) {o : Result B Refusal}
+    → Finds m s t r t' → o ≡ result_map_both f (λ e. e) r → Finds (bind m (λ a. ret (f a))) s t o t'
+find_map f (Ok a) p e = find_out e (find_bind p _ find_ret)
+find_map f (Err x) p e = find_out e (find_stop p _)
 
 -- a `?` that hands a refusal up
 pub find_break : {A B : Type 0} {m : Steps A} {s : Contents Cell} {t t1 : Trail} {r : Refusal}

@@ -28,7 +28,7 @@ impl<'a> Words<'a> {
         ensures { (b : BoardOf) (is os : List Bool) → Finds (word (length self.now.ram.now) self.now.site n) (view b is os self.now.ram.now) trail.old result trail.new }
     {
         let address = self.site.place.wrapping_add(n);
-        if address as usize >= self.ram.len() {
+        if usize::from(address) >= self.ram.len() {
             return Err(self.site.refusal(Reason::PastRam, 0));
         }
         Ok(read_ram(self.ram, address, trail))
@@ -39,8 +39,7 @@ impl<'a> Words<'a> {
         ensures { (b : BoardOf) (is os : List Bool) → Finds (jump_word (length self.now.ram.now) self.now.site layout) (view b is os self.now.ram.now) trail.old result trail.new }
     {
         if layout.jump {
-            let address = self.word(1, trail)?;
-            Ok(Some(address))
+            self.word(1, trail).map(Some)
         } else {
             Ok(None)
         }
@@ -59,8 +58,7 @@ impl<'a> Words<'a> {
             return Ok(None);
         };
         let data = self.word(layout.before_data(), trail)?;
-        let source = source_operand(mode, data, self.site, 1)?;
-        Ok(Some(source))
+        source_operand(mode, data, self.site, 1).map(Some)
     }
 
     // The words after the head.
@@ -135,6 +133,7 @@ pub enum Action {
 fn take_value(board: &Board, t: TaskNumber, source: Option<Operand>, trail: &mut Trail) -> u16
     ensures { (is os : List Bool) (ws : List ℕ) → Finds (value t source) (view board.now is os ws) trail.old (Ok result) trail.new }
 {
+    // in two steps, since one match over both enums does not prove
     let Some(source) = source else {
         return 0;
     };
@@ -148,10 +147,9 @@ fn take_value(board: &Board, t: TaskNumber, source: Option<Operand>, trail: &mut
 fn locate(site: Site, base: Option<Base>, offset: u16) -> Result<Line, Refusal>
     ensures { result ≡ line_at site base offset }
 {
-    if offset > 255 {
+    let Ok(n) = u8::try_from(offset) else {
         return Err(site.refusal(Reason::ValueRange, 2));
-    }
-    let n = offset as u8;
+    };
     Ok(match base {
         Some(Base::Inputs) => Line::Input(n),
         Some(Base::Outputs) => Line::Output(n),
