@@ -140,7 +140,7 @@ pub(crate) fn events(heap: Global) -> Result<Vec<Event>, AllocError> {
 pub(crate) fn slip() -> [Event; 3] {
     let place = Ask::Place {
         address: SLIP.address,
-        word: 0xFF00,
+        word: SLIP.words[0],
     };
     [place, HOMING.start(0), SLIP.start(1)].map(event)
 }
