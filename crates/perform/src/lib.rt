@@ -48,12 +48,6 @@ impl fmt::Display for Answer {
     }
 }
 
-fn is_at(bit: bool, value: bool) -> bool
-    ensures { result ≡ is_level value (level bit) }
-{
-    bit == value
-}
-
 // A command ends with the change of its task's place.
 fn move_on(board: &mut Board, t: TaskNumber, place: u16, trail: &mut Trail) -> Answer
     ensures { (is os : List Bool) (ws : List ℕ) → Goes (move_on t place) (view board.old is os ws) trail.old result (view board.new is os ws) trail.new }
@@ -100,24 +94,24 @@ pub fn abort_task(board: &mut Board, t: TaskNumber, trail: &mut Trail) -> Answer
     Answer::Done
 }
 
+// The timer and the delay have a function each: a shared one would take two closures, to read the cell and to write it, and
+// be longer at both calls.
 fn count_timer(board: &mut Board, t: TaskNumber, trail: &mut Trail)
     ensures { (is os : List Bool) (ws : List ℕ) → Goes (count_down (Register t 0x78)) (view board.old is os ws) trail.old Done (view board.new is os ws) trail.new }
 {
     let timer = board.read_register(t, RegisterNumber::TIMER, trail);
-    if timer == 0 {
-        return;
+    if let Some(left) = timer.checked_sub(1) {
+        board.write_register(t, RegisterNumber::TIMER, left, trail);
     }
-    board.write_register(t, RegisterNumber::TIMER, timer - 1, trail);
 }
 
 fn count_delay(board: &mut Board, t: TaskNumber, trail: &mut Trail)
     ensures { (is os : List Bool) (ws : List ℕ) → Goes (count_down (Delay t)) (view board.old is os ws) trail.old Done (view board.new is os ws) trail.new }
 {
-    let left = board.read_delay(t, trail);
-    if left == 0 {
-        return;
+    let delay = board.read_delay(t, trail);
+    if let Some(left) = delay.checked_sub(1) {
+        board.write_delay(t, left, trail);
     }
-    board.write_delay(t, left - 1, trail);
 }
 
 fn tick_task(board: &mut Board, t: TaskNumber, trail: &mut Trail)
@@ -137,6 +131,8 @@ pub fn tick_tasks(board: &mut Board, trail: &mut Trail) -> Answer
     Answer::Done
 }
 
+// The store, the task and the trail stay apart in what follows: a struct of the three would hold two loans, made anew for
+// each command and taken apart in each step.
 fn branch_on<I: Card, O: Card>(
     store: &mut Store<I, O>,
     t: TaskNumber,
@@ -149,11 +145,8 @@ fn branch_on<I: Card, O: Card>(
     ensures { (ws : List ℕ) → Goes (branch t line value to next) (cells_of I.Card.lines O.Card.lines store.old ws) trail.old result (cells_of I.Card.lines O.Card.lines store.new ws) trail.new }
 {
     let bit = store.read_line(line, trail);
-    if is_at(bit, value) {
-        move_on(&mut store.board, t, to, trail)
-    } else {
-        move_on(&mut store.board, t, next, trail)
-    }
+    let place = if bit == value { to } else { next };
+    move_on(&mut store.board, t, place, trail)
 }
 
 fn write_bit<I: Card, O: Card>(
@@ -194,7 +187,7 @@ fn halt_while<I: Card, O: Card>(
     ensures { (ws : List ℕ) → Goes (halt t line value next) (cells_of I.Card.lines O.Card.lines store.old ws) trail.old result (cells_of I.Card.lines O.Card.lines store.new ws) trail.new }
 {
     let bit = store.read_line(line, trail);
-    if is_at(bit, value) {
+    if bit == value {
         return Answer::Halted;
     }
     move_on(&mut store.board, t, next, trail)

@@ -1,15 +1,16 @@
-use mathlib.Core.Path.{sym, ◌∙◌}
+use mathlib.Core.Path.{◌≡◌}
+use mathlib.Core.Bool.{cond}
+use native.Mathlib.Omega.{arith}
+use Rattle.store.specs.View.{level}
 use Rattle.cells.proofs.Following.{go_look}
+use Rattle.perform.specs.Perform.{is_level}
+use Rattle.perform.proofs.Levels.{level_is}
 use Rattle.perform.proofs.branch_on.Goals as goal
 
-pub returns-then-is_at : goal.returns-then-is_at
-returns-then-is_at g c = λ ws.
+pub returns : goal.returns
+returns g c = λ ws.
+    let is : c.if-bit-value.place ≡ cond (is_level c.args.value (level c.read_line-bit.result)) c.args.to c.args.next =
+    grind (arith, level_is) in
     go_look (c.read_line-bit.ensures ws) (
-    rw (sym c.is_at.ensures ∙ c.if-is_at.true) (
+    rw (← is) (
     c.move_on.ensures (g.I.Card.lines c.args.store.now.inputs) (g.O.Card.lines c.args.store.now.outputs) ws))
-
-pub returns-else-is_at : goal.returns-else-is_at
-returns-else-is_at g c = λ ws.
-    go_look (c.read_line-bit.ensures ws) (
-    rw (sym c.is_at.ensures ∙ c.if-is_at.false) (
-    c.move_on-else-is_at.ensures (g.I.Card.lines c.args.store.now.inputs) (g.O.Card.lines c.args.store.now.outputs) ws))

@@ -16,9 +16,6 @@ returns-in-Write g c = λ ws. rw c.in-Write.is (c.write_bit.ensures ws)
 pub returns-in-Invert : goal.returns-in-Invert
 returns-in-Invert g c = λ ws. rw c.in-Invert.is (c.invert_bit.ensures ws)
 
-pub returns-in-HaltWhile : goal.returns-in-HaltWhile
-returns-in-HaltWhile g c = λ ws. rw c.in-HaltWhile.is (c.halt_while.ensures ws)
-
 pub returns-in-EndTask : goal.returns-in-EndTask
 returns-in-EndTask g c = λ ws.
     let is = g.I.Card.lines c.args.store.now.inputs in
