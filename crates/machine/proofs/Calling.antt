@@ -1,97 +1,68 @@
 -- From what the code did to the run of the event's tree.
-use Rattle.std.proofs.Common.{◌≡◌, ℕ, ◌≤◌, Bool, true, false, cond, ltb, List, length, IsErrAnd, Some, None, Ok, Err, Option, Result, sym, refl, ap, ◌∙◌, subst, arith}
-use Rattle.std.specs.Bool.{then_some}
-use Rattle.std.specs.Option.{is_some}
-use Rattle.words.specs.Numbers.{below}
+use Rattle.std.proofs.Common.{◌≡◌, ℕ, ◌≤◌, Bool, true, false, cond, List, length, IsErrAnd, Some, None, Ok, Err, Option, Result, sym, refl, ap, ◌∙◌, arith}
 use Rattle.std.specs.Borrow.{MutBor}
 use Rattle.std.proofs.lemmas.Result.{err_from_is_err_and}
-use Rattle.law.specs.Trees.{Contents, run, go, kept, left_in}
+use Rattle.law.specs.Trees.{Contents, run, go}
 use Rattle.law.specs.declared.Entry.{Entry}
 use Rattle.words.specs.declared.Refusal.{Refusal}
 use Rattle.cells.specs.Cells.{same}
-use Rattle.cells.specs.Runs.{Steps, Finds, Goes}
-use Rattle.cells.specs.Trails.{over, Fresh}
+use Rattle.cells.specs.Runs.{Steps, Finds}
+use Rattle.cells.specs.Trails.{Grows, Fresh}
 use Rattle.cells.specs.declared.Cell.{Cell}
 use Rattle.cells.specs.declared.Trail.{Trail}
 use Rattle.cells.proofs.Bounds.{Short}
 use Rattle.cells.proofs.Noting.{finished}
 use Rattle.perform.specs.declared.Answer.{Answer}
-use Rattle.machine.specs.Calls.{counted, first_tests, Ends, Did}
-use Rattle.machine.specs.Events.{ram_fits, guarded, admitted}
+use Rattle.machine.specs.Calls.{counted, first_tests, Admits, Ends, Did}
+use Rattle.machine.specs.Events.{guarded, admitted}
 use Rattle.machine.specs.declared.Answered.{Answered}
 use Rattle.machine.specs.declared.Refused.{Refused}
 
--- an event that its first tests refuse, and one that passes them
-stopped : {T : Type 0} (m : Steps Answer) (s : Contents Cell) (old : List (Entry Cell)) (fits : Bool) (named : Option T) (short : Bool) (e : Refused)
-    → Err e ≡ first_tests fits named short → Did (guarded fits (is_some named) short m) s old (Err e) s old
-stopped m s old false named short e h = record { result = cc; cells = λ x. refl; list = refl }
-stopped m s old true None short e h = record { result = cc; cells = λ x. refl; list = refl }
-stopped m s old true (Some x) true e h = record { result = cc; cells = λ x. refl; list = refl }
-stopped m s old true (Some x) false e h = let z : ◌≡◌ {A = ℕ} 0 1 = cc in absurd (omega arith)
+-- the run of a tree that code followed to its end
+record Ran (m : Steps Answer) (s : Contents Cell) (t : Trail) (r : Result Answer Refusal) (s' : Contents Cell) (t' : Trail) : Type 0 where
+  end : (run same m s).end ≡ r
+  after : (run same m s).after ≡ s'
+  trail : (run same m s).trail ≡ (go same m s).trail
+  grows : Grows (run same m s).trail t t'
 
--- `there` says whether what is named is there
-module _ {T : Type 0} (size room : ℕ) (named : Option T) (m : Steps Answer) {s : Contents Cell} {old : List (Entry Cell)} {there : Bool} (known : is_some named ≡ there) where
-  pub did_break : {e : Refused} → Err e ≡ first_tests (ram_fits size) named (ltb room 200) → (o : Result Answered Refused) → IsErrAnd o (λ y. y ≡ e)
-      → Did (admitted size room there m) s old o s old
-  did_break {e = e} h o by =
-      let q = err_from_is_err_and o by in
-      subst (λ (b : Bool). Did (admitted size room b m) s old o s old) known (
-      subst (λ (r : Result Answered Refused). Did (admitted size room (is_some named) m) s old r s old) (sym (q.1 ∙ ap Err q.2))
-      (stopped m s old (ram_fits size) named (ltb room 200) e h))
+ran : {m : Steps Answer} {s s' : Contents Cell} {t t' : Trail} (r : Result Answer Refusal) → Ends m s t r s' t' → Ran m s t r s' t'
+ran (Ok a) g = record { end = g.ends; after = rw g.ends g.after; trail = rw g.ends; grows = rw g.ends g.grows }
+ran (Err e) g = record { end = g.0.ends; after = rw g.0.ends (sym g.1); trail = rw g.0.ends g.0.reads; grows = rw (g.0.ends, g.0.reads) g.0.grows }
 
-  pub did_pass : {x : T} {r : Result Answered Refused} {s' : Contents Cell} {new : List (Entry Cell)}
-      → Ok x ≡ first_tests (ram_fits size) named (ltb room 200) → Did m s old r s' new → Did (admitted size room there m) s old r s' new
-  did_pass {x = x} {r = r} {s' = s'} {new = new} h d =
-      subst (λ (b : Bool). Did (admitted size room b m) s old r s' new) known (by (ram_fits size) named (ltb room 200) h)
-    where
-      by : (a : Bool) (n : Option T) (c : Bool) → Ok x ≡ first_tests a n c → Did (guarded a (is_some n) c m) s old r s' new
-      by false n c h = let z : ◌≡◌ {A = ℕ} 0 1 = cc in absurd (omega arith)
-      by true None c h = let z : ◌≡◌ {A = ℕ} 0 1 = cc in absurd (omega arith)
-      by true (Some y) true h = let z : ◌≡◌ {A = ℕ} 0 1 = cc in absurd (omega arith)
-      by true (Some y) false h = d
+module _ {m : Steps Answer} {s s' : Contents Cell} {x : MutBor (List (Entry Cell))} {t : Trail} where
+  did : (t' : Trail) (r : Result Answer Refusal) {o : Result Answered Refused} {new : List (Entry Cell)}
+      → Fresh x t → Short 200 m → 200 ≤ length x.now → Ends m s t r s' t' → o ≡ counted r t'.count → new ≡ t'.entries.now
+      → Did m s x.now o s' new
+  did t' r fresh short wide ends c e =
+      let q = ran r ends in
+      let f = finished (run same m s).trail fresh q.grows (omega (arith, short.is s, ap length q.trail)) in
+      record { result = rw (c, f.1, q.end); cells = λ y. rw q.after; list = e ∙ f.0 }
 
--- a number below a bound is there if it is below, and is the number
-pub below_known : (n k : ℕ) {r : Option ℕ} → r ≡ below n k → is_some r ≡ ltb k n
-below_known n k e = ap is_some e ∙ by (ltb k n)
-  where
-    by : (b : Bool) → is_some (cond b (Some k) None) ≡ b
-    by true = refl
-    by false = refl
+-- an event that names k, which is there or not
+module _ {T : Type 0} (m : T → Steps Answer) (k : T) where
+  refused : {s : Contents Cell} {old : List (Entry Cell)} {e : Refused} (fits there short : Bool)
+      → Err e ≡ first_tests fits (cond there (Some k) None) short → Did (guarded fits there short (m k)) s old (Err e) s old
+  refused false there short h = record { result = cc; cells = λ y. refl; list = refl }
+  refused true false short h = record { result = cc; cells = λ y. refl; list = refl }
+  refused true true true h = record { result = cc; cells = λ y. refl; list = refl }
+  refused true true false h = cc
 
-pub below_is : (n k : ℕ) {x : ℕ} {r : Option ℕ} → r ≡ below n k → r ≡ Some x → x ≡ k
-below_is n k {x = x} e h = by (ltb k n) (sym h ∙ e)
-  where
-    by : (b : Bool) → Some x ≡ cond b (Some k) None → x ≡ k
-    by true q = cc
-    by false q = let z : ◌≡◌ {A = ℕ} 0 1 = cc in absurd (omega arith)
+  passed : {s s' : Contents Cell} {old new : List (Entry Cell)} {o : Result Answered Refused} {x : T} (fits there short : Bool)
+      → Ok x ≡ first_tests fits (cond there (Some k) None) short → Did (m x) s old o s' new → Did (guarded fits there short (m k)) s old o s' new
+  passed false there short h d = cc
+  passed true false short h d = cc
+  passed true true true h d = cc
+  passed {x = x} true true false h d = let is : k ≡ x = cc in rw is d
 
-module _ {m : Steps Answer} {s s' : Contents Cell} {x : MutBor (List (Entry Cell))} {t t' : Trail} {new : List (Entry Cell)} where
-  -- a run that ended in an answer
-  did_go : {a : Answer} {n : ℕ} → Fresh x t → Short 200 m → 200 ≤ length x.now → Goes m s t a s' t' → n ≡ t'.count → new ≡ t'.entries.now
-      → Did m s x.now (Ok (record { answer = a; count = n })) s' new
-  did_go {a = a} {n = n} fresh short wide g c e =
-      let f = finished (go same m s).trail fresh g.grows (omega (arith, short.is s)) in
-      let trail : (run same m s).trail ≡ (go same m s).trail = ap (λ (r : Result Answer Refusal). kept r (go same m s).trail) g.ends in
-      record {
-        result = ap (λ (k : ℕ). Ok (record { answer = a; count = k })) (c ∙ f.1 ∙ ap length (sym trail))
-            ∙ ap (λ (r : Result Answer Refusal). counted r (length (run same m s).trail)) (sym g.ends);
-        cells = λ y. ap (λ (z : Contents Cell). z y) (sym (ap (λ (r : Result Answer Refusal). left_in r s (go same m s).after) g.ends ∙ g.after));
-        list = e ∙ f.0 ∙ ap (λ (es : List (Entry Cell)). over es x.now) (sym trail);
-      }
+  module _ {size : ℕ} (there : Bool) {named : Option T} (is : named ≡ cond there (Some k) None) where
+    pub did_break : {room : ℕ} {s : Contents Cell} {old : List (Entry Cell)} {e : Refused} → Admits (Err e) size room named
+        → (o : Result Answered Refused) → IsErrAnd o (λ y. y ≡ e) → Did (admitted size room there (m k)) s old o s old
+    did_break a o by = let q = err_from_is_err_and o by in rw (q.1, q.2) (refused _ there _ (rw is at a.value))
 
-  -- one that ended in a refusal
-  did_find : {e : Refusal} {n : ℕ} → Fresh x t → Short 200 m → 200 ≤ length x.now → Finds m s t (Err e) t' → s' ≡ s → n ≡ t'.count → new ≡ t'.entries.now
-      → Did m s x.now (Err (record { refusal = e; count = n })) s' new
-  did_find {e = r} {n = n} fresh short wide g k c e =
-      let f = finished (go same m s).trail fresh g.grows (omega (arith, short.is s)) in
-      let trail : (run same m s).trail ≡ (go same m s).trail =
-      ap (λ (r : Result Answer Refusal). kept r (go same m s).trail) g.ends ∙ g.reads in
-      record {
-        result = ap (λ (k : ℕ). Err (record { refusal = r; count = k })) (c ∙ f.1 ∙ ap length (sym trail))
-            ∙ ap (λ (r : Result Answer Refusal). counted r (length (run same m s).trail)) (sym g.ends);
-        cells = λ y. ap (λ (z : Contents Cell). z y) (k ∙ sym (ap (λ (r : Result Answer Refusal). left_in r s (go same m s).after) g.ends));
-        list = e ∙ f.0 ∙ ap (λ (es : List (Entry Cell)). over es x.now) (sym trail);
-      }
+    pub did_end : {s s' : Contents Cell} {x : T} {l : MutBor (List (Entry Cell))} {t : Trail} (t' : Trail) (r : Result Answer Refusal) {o : Result Answered Refused} {new : List (Entry Cell)}
+        → Admits (Ok x) size (length l.now) named → Fresh l t → Short 200 (m x) → Ends (m x) s t r s' t' → o ≡ counted r t'.count → new ≡ t'.entries.now
+        → Did (admitted size (length l.now) there (m k)) s l.now o s' new
+    did_end t' r a fresh short ends c e = passed _ there _ (rw is at a.value) (did t' r fresh short a.passed.wide ends c e)
 
 -- a refusal that came up from below, after reads alone
 pub ends_refused : {m : Steps Answer} {s s' : Contents Cell} {t t' : Trail} (e : Refusal) (o : Result Answer Refusal) → IsErrAnd o (λ y. y ≡ e)
@@ -99,34 +70,7 @@ pub ends_refused : {m : Steps Answer} {s s' : Contents Cell} {t t' : Trail} (e :
 ends_refused e (Ok a) h f k = absurd h
 ends_refused e (Err r) h f k = (f, k)
 
--- a run that ended in either
-pub did_end : {m : Steps Answer} {s s' : Contents Cell} {x : MutBor (List (Entry Cell))} {t : Trail} (t' : Trail) {new : List (Entry Cell)} (r : Result Answer Refusal) {o : Result Answered Refused}
-    → Fresh x t → Short 200 m → 200 ≤ length x.now → Ends m s t r s' t' → o ≡ counted r t'.count → new ≡ t'.entries.now → Did m s x.now o s' new
-did_end {m} {s} {s'} {x} {t} t' {new} (Ok a) {o} fresh short wide g c e =
-    subst (λ (r : Result Answered Refused). Did m s x.now r s' new) (sym c) (did_go fresh short wide g refl e)
-did_end {m} {s} {s'} {x} {t} t' {new} (Err f) {o} fresh short wide g c e =
-    subst (λ (r : Result Answered Refused). Did m s x.now r s' new) (sym c) (did_find fresh short wide g.0 g.1 refl e)
-
--- the same number in a tree
-pub ends_at : (m : ℕ → Steps Answer) (r : Result Answer Refusal) {n k : ℕ} (s s' : Contents Cell) (t t' : Trail) → n ≡ k → Ends (m n) s t r s' t' → Ends (m k) s t r s' t'
-ends_at m r s s' t t' e g = subst (λ (n : ℕ). Ends (m n) s t r s' t') e g
-
 -- it stays the same loan
 pub ends_loan : (m : Steps Answer) (r : Result Answer Refusal) (s s' : Contents Cell) (t t' : Trail) → Ends m s t r s' t' → t'.entries.ghost_name ≡ t.entries.ghost_name
 ends_loan m (Ok a) s s' t t' g = g.grows.loan
 ends_loan m (Err f) s s' t t' g = g.0.grows.loan
-
--- what is named if a test says so
-pub some_known : {T : Type 0} (b : Bool) (x : T) {r : Option T} → r ≡ then_some b x → is_some r ≡ b
-some_known b x e = ap is_some e ∙ by b
-  where
-    by : (b : Bool) → is_some (then_some b x) ≡ b
-    by true = refl
-    by false = refl
-
-pub some_is : (b : Bool) (k : ℕ) {x : ℕ} {r : Option ℕ} → r ≡ then_some b k → r ≡ Some x → x ≡ k
-some_is b k {x = x} e h = by b (sym h ∙ e)
-  where
-    by : (b : Bool) → Some x ≡ then_some b k → x ≡ k
-    by true q = cc
-    by false q = let z : ◌≡◌ {A = ℕ} 0 1 = cc in absurd (omega arith)

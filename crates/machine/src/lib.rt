@@ -88,9 +88,7 @@ fn admit<T: Copy>(size: usize, named: Option<T>, room: usize) -> Result<T, Refus
     if !ram_fits(size) {
         return Err(Refused::from(Reason::RamLength));
     }
-    let Some(named) = named else {
-        return Err(Refused::from(Reason::NoSuchThing));
-    };
+    let named = named.ok_or(Reason::NoSuchThing)?;
     if room < 200 {
         return Err(Refused::from(Reason::ShortTrail));
     }
@@ -147,10 +145,8 @@ impl<I: Card, O: Card> Machine<I, O> {
         if !ram_fits(ram.len()) {
             return Err(Refusal::from(Reason::RamLength));
         }
-        match Cell::new(ram.len(), kind, task, number) {
-            Some(cell) => Ok(self.store.read_cell(ram, cell)),
-            None => Err(Refusal::from(Reason::NoSuchThing)),
-        }
+        let cell = Cell::new(ram.len(), kind, task, number).ok_or(Reason::NoSuchThing)?;
+        Ok(self.store.read_cell(ram, cell))
     }
 
     // Whether this machine with its RAM and another with its own hold the same in all cells.
@@ -165,6 +161,9 @@ impl<I: Card, O: Card> Machine<I, O> {
         self.store.same_cells(&other.store) && ram == other_ram
     }
 
+    // Each event makes its first tests, takes its step and counts its trail by three calls of its own. One function for all,
+    // with the step as a closure, would be no shorter where it is called, and its contract would speak of both loans.
+
     // Puts a word into RAM.
     pub fn place(
         &mut self,
@@ -175,7 +174,7 @@ impl<I: Card, O: Card> Machine<I, O> {
     ) -> Result<Answered, Refused>
         ensures { Did (place (length ram.old) (length trail.old) address word) (cells_of I.Card.lines O.Card.lines self.old ram.old) trail.old result (cells_of I.Card.lines O.Card.lines self.new ram.new) trail.new }
     {
-        let there = (address as usize) < ram.len();
+        let there = usize::from(address) < ram.len();
         let address = admit(ram.len(), there.then_some(address), trail.len())?;
         let mut notes = Trail::new(trail);
         write_ram(ram, address, word, &mut notes);

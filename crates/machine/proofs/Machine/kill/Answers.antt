@@ -1,20 +1,15 @@
-use Rattle.std.proofs.Common.{length, Ok, rules}
-use Rattle.cells.proofs.Following.{go_at}
+use Rattle.std.proofs.Common.{ltb, Ok, rules}
 use Rattle.perform.specs.Perform.{kill}
 use Rattle.machine.proofs.Lengths.{short_end}
-use Rattle.machine.proofs.Calling.{did_break, did_pass, did_end, below_known, below_is}
+use Rattle.machine.proofs.Calling.{did_break, did_end}
 use Rattle.machine.proofs.Machine.kill.Goals as goal
 
 pub returns-in_err-task : goal.returns-in_err-task
-returns-in_err-task g c =
-    did_break (length c.args.ram.now) (length c.args.trail.now) c.new.result (kill c.args.task) (below_known 32 c.args.task c.new.ensures) c.in_err-task.ensures.value _ c.from_residual.ensures.1
+returns-in_err-task g c = did_break kill c.args.task (ltb c.args.task 32) c.new.ensures c.in_err-task.ensures _ c.from_residual.ensures.1
 
 pub returns : goal.returns
 returns g c =
     let m = c.args.self.now.store in
-    let is = below_is 32 c.args.task c.new.ensures c.in_ok-task.ensures.passed.known in
-    let ran = go_at kill is (c.end_task-answer.ensures (g.I.Card.lines m.inputs) (g.O.Card.lines m.outputs) c.args.ram.now) in
+    let ran = c.end_task-answer.ensures (g.I.Card.lines m.inputs) (g.O.Card.lines m.outputs) c.args.ram.now in
     let loan = ran.grows.loan in
-    did_pass (length c.args.ram.now) (length c.args.trail.now) c.new.result (kill c.args.task) (below_known 32 c.args.task c.new.ensures) c.in_ok-task.ensures.value (
-    did_end _ (Ok _) c.new-notes.ensures (short_end c.args.task) c.in_ok-task.ensures.passed.wide
-    ran c.counted.ensures (search rules))
+    did_end kill c.args.task (ltb c.args.task 32) c.new.ensures _ (Ok _) c.in_ok-task.ensures c.new-notes.ensures (short_end _) ran c.counted.ensures (search rules)
