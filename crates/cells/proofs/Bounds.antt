@@ -1,5 +1,5 @@
 -- How long the trail of a tree can be.
-use Rattle.std.proofs.Common.{ℕ, ◌+◌, ◌≤◌, Bool, true, false, cond, length, Ok, Err, Result, arith, length-append}
+use Rattle.std.proofs.Common.{ℕ, suc, ◌+◌, ◌≤◌, Bool, true, false, cond, length, Ok, Err, Result, arith, length-append}
 use Rattle.law.specs.Trees.{ret, refuse, look, change, bind, Contents, poke, go, go_on}
 use Rattle.law.proofs.Single.{joining}
 use Rattle.words.specs.declared.Refusal.{Refusal}
@@ -18,10 +18,10 @@ module _ {A : Type 0} where
   pub short_refuse : {n : ℕ} {r : Refusal} → Short {A = A} n (refuse r)
   short_refuse = record { is = λ s. omega arith }
 
-  pub short_look : {n : ℕ} {c : Cell} {k : ℕ → Steps A} → ((v : ℕ) → Short n (k v)) → Short (n + 1) (look c k)
+  pub short_look : {n : ℕ} {c : Cell} {k : ℕ → Steps A} → ((v : ℕ) → Short n (k v)) → Short (suc n) (look c k)
   short_look {c = c} h = record { is = λ s. omega (arith, (h (s c)).is s) }
 
-  pub short_change : {n : ℕ} {c : Cell} {v : ℕ} {m : Steps A} → Short n m → Short (n + 1) (change c v m)
+  pub short_change : {n : ℕ} {c : Cell} {v : ℕ} {m : Steps A} → Short n m → Short (suc n) (change c v m)
   short_change {c = c} {v = v} h = record { is = λ s. omega (arith, h.is (poke same c v s)) }
 
   pub short_cond : {n : ℕ} {m k : Steps A} → (b : Bool) → Short n m → Short n k → Short n (cond b m k)

@@ -7,21 +7,20 @@ use Rattle.perform.proofs.Lengths.{short_perform, short_ready, short_abort, shor
 use Rattle.machine.specs.Events.{launch, cycle}
 
 pub short_launch : (t a : ℕ) → Short 200 (launch t a)
-short_launch t a = shorter 200 (short_look {n = 6} (λ s. short_cond _ (short_ready t a) short_refuse)) (omega arith)
+short_launch t a = shorter 200 (short_look (λ s. short_cond _ (short_ready t a) short_refuse)) (omega arith)
 
 pub short_tick : Short 200 (ticks 32)
 short_tick = shorter 200 (short_ticks 32) (omega arith)
 
 pub short_end : (t : ℕ) → Short 200 (kill_task t)
-short_end t = shorter 200 (short_change {n = 0} short_ret) (omega arith)
+short_end t = short_change short_ret
 
 pub short_away : (t : ℕ) → Short 200 (abort_task t)
 short_away t = shorter 200 (short_abort t) (omega arith)
 
 pub short_cycle : (size t : ℕ) → Short 200 (cycle size t)
 short_cycle size t =
-    shorter 200 (
-    short_look {n = 9} (λ s. short_cond _ short_ret (
-    short_look {n = 8} (λ d. short_cond _ (
-    short_look {n = 7} (λ p. short_bind {n = 4} {k = 3} (short_plan size _) (λ a. short_perform t a)))
-    short_ret)))) (omega arith)
+    short_look (λ s. short_cond _ short_ret (
+    short_look (λ d. short_cond _ (
+    short_look (λ p. shorter 197 (short_bind {n = 4} {k = 3} (short_plan size _) (λ a. short_perform t a)) (omega arith)))
+    short_ret)))

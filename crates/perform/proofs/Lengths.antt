@@ -5,33 +5,29 @@ use Rattle.cells.proofs.Bounds.{Short, short_ret, short_look, short_change, shor
 use Rattle.cells.specs.declared.Cell.{Cell}
 use Rattle.plan.specs.declared.Action.{Action}
 use Rattle.plan.specs.declared.Action.TheVariants.{Jump, BranchOn, Write, Invert, HaltWhile, EndTask}
-use Rattle.perform.specs.Perform.{move_on, kill, ready_at, abort, count_down, ticks, perform}
+use Rattle.perform.specs.Perform.{move_on, ready_at, abort, count_down, ticks, perform}
 
-short_move : (t p : ℕ) → Short 1 (move_on t p)
-short_move t p = short_change {n = 0} short_ret
+short_move : {n : ℕ} (t p : ℕ) → Short (suc n) (move_on t p)
+short_move t p = short_change short_ret
 
 pub short_perform : (t : ℕ) (a : Action) → Short 3 (perform t a)
-short_perform t (Jump to) = shorter 3 (short_move t to) (omega arith)
-short_perform t (BranchOn l v to next) = shorter 3 (short_look {n = 1} (λ b. short_move t _)) (omega arith)
-short_perform t (Write l v next) = shorter 3 (short_change {n = 1} (short_move t next)) (omega arith)
-short_perform t (Invert l next) = short_look {n = 2} (λ b. short_change {n = 1} (short_move t next))
-short_perform t (HaltWhile l v next) = shorter 3 (short_look {n = 1} (λ b. short_cond _ short_ret (short_move t next))) (omega arith)
-short_perform t (EndTask next) = shorter 3 (short_change {n = 1} (short_move t next)) (omega arith)
-
-short_kill : (t : ℕ) → Short 1 (kill t)
-short_kill t = short_change {n = 0} short_ret
+short_perform t (Jump to) = short_move t to
+short_perform t (BranchOn l v to next) = short_look (λ b. short_move t _)
+short_perform t (Write l v next) = short_change (short_move t next)
+short_perform t (Invert l next) = short_look (λ b. short_change (short_move t next))
+short_perform t (HaltWhile l v next) = short_look (λ b. short_cond _ short_ret (short_move t next))
+short_perform t (EndTask next) = short_change (short_move t next)
 
 pub short_ready : (t a : ℕ) → Short 6 (ready_at t a)
-short_ready t a =
-    short_change {n = 5} (short_change {n = 4} (short_change {n = 3} (short_change {n = 2} (short_change {n = 1} (short_change {n = 0} short_ret)))))
+short_ready t a = short_change (short_change (short_change (short_change (short_change (short_change short_ret)))))
 
 pub short_abort : (t : ℕ) → Short 4 (abort t)
 short_abort t =
-    short_look {n = 3} (λ s. short_cond _ short_ret (
-    short_look {n = 2} (λ a. short_cond _ (shorter 2 (short_kill t) (omega arith)) (short_change {n = 1} (short_change {n = 0} short_ret)))))
+    short_look (λ s. short_cond _ short_ret (
+    short_look (λ a. short_cond _ (short_change short_ret) (short_change (short_change short_ret)))))
 
 short_down : (c : Cell) → Short 2 (count_down c)
-short_down c = short_look {n = 1} (λ v. short_cond _ short_ret (short_change {n = 0} short_ret))
+short_down c = short_look (λ v. short_cond _ short_ret (short_change short_ret))
 
 pub short_ticks : (n : ℕ) → Short (4 * n) (ticks n)
 unfolding ticks

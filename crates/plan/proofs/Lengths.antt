@@ -20,7 +20,7 @@ short_lift (Ok a) = short_ret
 short_lift (Err e) = short_refuse
 
 short_word : (size : ℕ) (site : Site) (n : ℕ) → Short 1 (word size site n)
-short_word size site n = short_cond _ (short_look {n = 0} (λ v. short_ret)) short_refuse
+short_word size site n = short_cond _ (short_look (λ v. short_ret)) short_refuse
 
 short_jump : (size : ℕ) (site : Site) (l : Layout) → Short 1 (jump_word size site l)
 short_jump size site l = short_cond l.jump (short_bind {n = 1} {k = 0} (short_word size site 1) (λ w. short_ret)) short_ret
@@ -45,7 +45,7 @@ short_fetch size site =
 short_value : (t : ℕ) (o : Option Operand) → Short 1 (value t o)
 short_value t None = short_ret
 short_value t (Some (Immediate v)) = short_ret
-short_value t (Some (Register r)) = short_look {n = 0} (λ v. short_ret)
+short_value t (Some (Register r)) = short_look (λ v. short_ret)
 
 pub short_plan : (size : ℕ) (site : Site) → Short 4 (plan size site)
 short_plan size site =

@@ -18,4 +18,4 @@ returns g c =
     let named : c.ok.result ≡ cond (ltb c.args.line 256) (Some c.args.line) None = grind arith in
     let ran = go_change (c.write_line.ensures c.args.ram.now) go_ret in
     let loan = ran.grows.loan in
-    did_end (λ (n : ℕ). change (Input n) (level c.args.on) (ret Done)) c.args.line (ltb c.args.line 256) named _ (Ok _) c.in_ok-line.ensures c.new-notes.ensures (short_change {n = 199} short_ret) ran c.counted.ensures (search rules)
+    did_end (λ (n : ℕ). change (Input n) (level c.args.on) (ret Done)) c.args.line (ltb c.args.line 256) named _ (Ok _) c.in_ok-line.ensures c.new-notes.ensures (short_change short_ret) ran c.counted.ensures (search rules)

@@ -20,4 +20,4 @@ returns g c =
     let named : c.then_some.result ≡ cond there (Some c.args.address) None = grind arith in
     let ran = go_change (c.write_ram.ensures m.board (g.I.Card.lines m.inputs) (g.O.Card.lines m.outputs)) go_ret in
     let loan = ran.grows.loan in
-    did_end (λ (a : ℕ). change (Ram a) c.args.word (ret Done)) c.args.address there named _ (Ok _) c.in_ok-address.ensures c.new-notes.ensures (short_change {n = 199} short_ret) ran c.counted.ensures (search rules)
+    did_end (λ (a : ℕ). change (Ram a) c.args.word (ret Done)) c.args.address there named _ (Ok _) c.in_ok-address.ensures c.new-notes.ensures (short_change short_ret) ran c.counted.ensures (search rules)
