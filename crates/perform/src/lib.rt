@@ -4,9 +4,9 @@
 ghost use Rattle.std.specs.Prelude.{◌≡◌, Bool, List, ℕ};
 ghost use Rattle.cells.specs.declared.Cell.TheVariants.{Register, Delay};
 ghost use Rattle.cells.specs.Runs.{Goes};
-ghost use Rattle.store.specs.View.{level, view, cells_of};
+ghost use Rattle.store.specs.View.{view, cells_of};
 ghost use Rattle.perform.specs.declared.Answer.TheVariants.{Done};
-ghost use Rattle.perform.specs.Perform.{answer_number, is_level, move_on, kill, ready_at, abort, count_down, tick_task, ticks, branch, write, invert, halt, perform};
+ghost use Rattle.perform.specs.Perform.{answer_number, move_on, kill, ready_at, abort, count_down, tick_task, ticks, branch, write, invert, halt, perform};
 
 use cards::Card;
 use cells::Trail;

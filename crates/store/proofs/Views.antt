@@ -5,7 +5,7 @@ use Rattle.law.specs.Trees.{poke}
 use Rattle.cells.specs.Cells.{same}
 use Rattle.cells.specs.declared.Cell.{Cell}
 use Rattle.cells.specs.declared.Cell.TheVariants.{Register, State}
-use Rattle.store.specs.View.{state_number, view, new_cells, no_task, with_register, with_state}
+use Rattle.store.specs.View.{state_number, view, new_cells, no_task, with_register}
 use Rattle.store.specs.declared.Board.{Board}
 use Rattle.store.specs.declared.State.{State as TaskState}
 use Rattle.store.specs.declared.State.TheVariants.{Idle}
@@ -16,6 +16,10 @@ pub poke_register : (b : Board) (is os : List Bool) (ws : List ℕ) (t r v : ℕ
     → t < length b.tasks → old ≡ get_or b.tasks t no_task → r < length old.registers → new ≡ with_register old r v
     → poke same (Register t r) v (view b is os ws) ≡ view (record { tasks = set b.tasks t new; flags = b.flags }) is os ws
 poke_register b is os ws t r v h e hr k = grind (arith, get_or-set_same, get_or-set_other)
+
+-- a task with its state changed
+abbrev pub with_state : Task → TaskState → Task
+with_state k v = record { registers = k.registers; place = k.place; state = v; delay = k.delay }
 
 pub poke_state : (b : Board) (is os : List Bool) (ws : List ℕ) (t : ℕ) (v : TaskState) → t < length b.tasks
     → poke same (State t) (state_number v) (view b is os ws)

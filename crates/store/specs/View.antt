@@ -66,15 +66,6 @@ line_cell (line.Input n) = Input n
 line_cell (line.Output n) = Output n
 line_cell (line.Flag n) = Flag n
 
--- a task with one part changed
+-- a task with one register changed
 abbrev pub with_register : Task → ℕ → ℕ → Task
 with_register k r v = record { registers = slice_set k.registers r v; place = k.place; state = k.state; delay = k.delay }
-
-abbrev pub with_place : Task → ℕ → Task
-with_place k v = record { registers = k.registers; place = v; state = k.state; delay = k.delay }
-
-abbrev pub with_state : Task → TaskState → Task
-with_state k v = record { registers = k.registers; place = k.place; state = v; delay = k.delay }
-
-abbrev pub with_delay : Task → ℕ → Task
-with_delay k v = record { registers = k.registers; place = k.place; state = k.state; delay = v }

@@ -6,7 +6,7 @@ ghost use Rattle.cells.specs.declared.Cell.{Cell};
 ghost use Rattle.cells.specs.declared.Cell.TheVariants.{Register, Place, State as StateCell, Delay, Flag, Ram};
 ghost use Rattle.cells.specs.Cells.{There};
 ghost use Rattle.cells.specs.Runs.{Sees, Pokes};
-ghost use Rattle.store.specs.View.{state_number, level, view, cells_of, new_cells, line_cell, with_register, with_place, with_state, with_delay, Equal};
+ghost use Rattle.store.specs.View.{state_number, level, view, cells_of, new_cells, line_cell, with_register, Equal};
 
 use cards::Card;
 use cells::{Cell, Trail};

@@ -270,7 +270,7 @@ const BIT_JUMP: Layout = Layout {
     ..JUMP
 };
 
-// The layout by code, for the codes from 10 to 17 and from 50 to 57: constant tables that the code indexes, for the speed.
+// The layout by code, for the codes from 10 to 17 and from 50 to 57: constant tables, so that one index chooses it.
 const BIT_ROWS: [Layout; 8] = [
     BIT_JUMP, BIT_JUMP, BIT_WRITE, BIT_WRITE, BIT_WRITE, BIT_READ, BIT_READ, BARE,
 ];
