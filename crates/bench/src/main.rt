@@ -8,12 +8,9 @@ use cards::active_low::ActiveLow;
 use cards::crossing::Crossing;
 use cards::wear::Wear;
 use cards::{Card, Packed};
-use cells::Cell;
 use desk::Desk;
 use events::{Event, Report};
-use law::Entry;
 use morning::Group;
-use perform::Answer;
 use rehearsal::rehearse;
 use std::array::from_fn;
 use std::io;
@@ -43,19 +40,11 @@ fn pile_of_outputs() -> Outputs {
     all_off(ActiveLow::new(crossing, from_fn(|line| line == 5 || line == 9)))
 }
 
-fn blank() -> Report {
-    Report {
-        end: Ok(Answer::Done),
-        count: 0,
-        trail: [Entry::Read(Cell::Ram { address: 0 }); 200],
-    }
-}
-
 // Rehearses the events in an order on two new machines, and prints what each event came to on both.
 fn show(rt: &(impl Print + AllocGlobal), events: &[Event], order: &[usize]) -> io::Result<()> {
     let mut first = Desk::new(rt.alloc(), Packed::new(), Packed::new())?;
     let mut second = Desk::new(rt.alloc(), pile_of_inputs(), pile_of_outputs())?;
-    let mut reports1 = vec![in rt.alloc(); blank(); events.len()]?;
+    let mut reports1 = vec![in rt.alloc(); Report::blank(); events.len()]?;
     let mut reports2 = reports1.clone()?;
     if let Err(no) = rehearse(
         &mut first.machine,

@@ -128,12 +128,8 @@ fn asks(heap: Global) -> Result<Vec<Ask>, AllocError> {
     Ok(asks)
 }
 
-fn event(ask: Ask) -> Event {
-    Event { ask, room: 200 }
-}
-
 pub(crate) fn events(heap: Global) -> Result<Vec<Event>, AllocError> {
-    asks(heap)?.into_iter().map(event).collect(heap)
+    asks(heap)?.into_iter().map(Event::from).collect(heap)
 }
 
 // Two tasks are started, and the second has a word that is no command.
@@ -142,11 +138,11 @@ pub(crate) fn slip() -> [Event; 3] {
         address: SLIP.address,
         word: SLIP.words[0],
     };
-    [place, HOMING.start(0), SLIP.start(1)].map(event)
+    [place, HOMING.start(0), SLIP.start(1)].map(Event::from)
 }
 
 pub(crate) fn slip_turn() -> Event {
-    event(Ask::Turn { task: 1 })
+    Event::from(Ask::Turn { task: 1 })
 }
 
 // What an event has to do with, in the order in which the groups come.

@@ -11,6 +11,7 @@ use Rattle.cells.specs.Trails.{over}
 use Rattle.cells.specs.declared.Cell.{Cell}
 use Rattle.cells.specs.declared.Cell.TheVariants.{Ram}
 use Rattle.perform.specs.declared.Answer.{Answer}
+use Rattle.perform.specs.declared.Answer.TheVariants.{Done}
 use Rattle.machine.specs.Events.{place, feed, tick, start, kill, abort, turn}
 use Rattle.machine.specs.declared.Answered.{Answered}
 use Rattle.machine.specs.declared.Refused.{Refused}
@@ -32,6 +33,10 @@ asked_tree size room (Turn t) = turn size room t
 abbrev pub tree : ℕ → Event → Steps Answer
 tree size e = asked_tree size e.room e.ask
 
+-- what is asked, with a list that is long enough for any trail
+abbrev pub with_list : Ask → Event
+with_list ask = record { ask = ask; room = 200 }
+
 -- what stands in a report past its count
 unfoldable pub blanks : List (Entry Cell)
 blanks = replicate 200 (Read (Ram 0))
@@ -43,6 +48,10 @@ told r = record { end = r.end; trail = take r.count r.trail }
 -- and the other way round: the whole report of what is told
 abbrev pub filed : Told Cell Answer Refusal → Report
 filed r = record { end = r.end; count = length r.trail; trail = over r.trail blanks }
+
+-- a report of nothing yet
+abbrev pub blank : Report
+blank = record { end = Ok Done; count = 0; trail = blanks }
 
 abbrev pub report_of : Result Answered Refused → List (Entry Cell) → Report
 report_of (Ok a) es = record { end = Ok a.answer; count = a.count; trail = es }

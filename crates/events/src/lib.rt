@@ -4,7 +4,7 @@
 ghost use Rattle.std.specs.Prelude.{◌≡◌, length, take, drop, MatchResult, OnOk};
 ghost use Rattle.machine.specs.Calls.{cells_of, Did};
 ghost use Rattle.events.specs.Rows.{room_told, Runs, FramesEach, DependsEach, AnyOrder, Prefixes};
-ghost use Rattle.events.specs.Events.{asked_tree, tree, told, Does};
+ghost use Rattle.events.specs.Events.{asked_tree, tree, told, blank, Does};
 
 use cards::Card;
 use cells::Cell;
@@ -49,6 +49,17 @@ pub struct Event {
     pub room: usize,
 }
 
+// An event with a list of 200 entries, which is enough for any trail.
+impl From<Ask> for Event {
+    ghost use Rattle.events.specs.Events.{with_list};
+
+    ghost from_gives = { λ ask event. event ≡ with_list ask };
+
+    fn from(ask: Ask) -> Event {
+        Event { ask, room: 200 }
+    }
+}
+
 // What an event came to: its answer or refusal, and its trail up to the count, in an array, since no event allocates.
 #[derive(Clone, Copy, PartialEq, Eq, Debug)]
 pub struct Report {
@@ -57,7 +68,22 @@ pub struct Report {
     pub trail: [Entry<Cell>; 200],
 }
 
+// What stands in a report past its count.
+const NOTHING: Entry<Cell> = Entry::Read(Cell::Ram { address: 0 });
+
 impl Report {
+    // A report of nothing yet, for `run` to write over.
+    #[tactic(auto, unfolding(crate::specs::Events::blanks))]
+    pub fn blank() -> Report
+        ensures { result ≡ blank }
+    {
+        Report {
+            end: Ok(Answer::Done),
+            count: 0,
+            trail: [NOTHING; 200],
+        }
+    }
+
     // The trail: the entries up to the count.
     pub fn entries(&self) -> &[Entry<Cell>]
         ensures { result.now ≡ (told self.now).trail }
@@ -106,7 +132,7 @@ pub fn call<I: Card, O: Card>(
 pub fn apply<I: Card, O: Card>(machine: &mut Machine<I, O>, ram: &mut [u16], event: Event) -> Report
     ensures { Does (tree (length ram.old) event) (cells_of I.Card.lines O.Card.lines machine.old ram.old) result (cells_of I.Card.lines O.Card.lines machine.new ram.new) }
 {
-    let mut trail = [Entry::Read(Cell::Ram { address: 0 }); 200];
+    let mut trail = [NOTHING; 200];
     let (end, count) = match call(machine, ram, event.ask, &mut trail[..event.room.min(200)]) {
         Ok(told) => (Ok(told.answer), told.count),
         Err(no) => (Err(no.refusal), no.count),

@@ -7,11 +7,8 @@ mod tests {
     use cards::crossing::Crossing;
     use cards::wear::Wear;
     use cards::{Card, Packed};
-    use cells::Cell;
     use events::{Ask, Event, Report, run};
-    use law::Entry;
     use machine::Machine;
-    use perform::Answer;
     use rehearsal::{Objection, is_order, rehearse};
     use std::array::from_fn;
     use std::process::Abort;
@@ -20,10 +17,6 @@ mod tests {
     type Plain = Machine<Packed, Packed>;
 
     type Piled = Machine<ActiveLow<Packed>, Crossing<Wear>>;
-
-    fn event(ask: Ask) -> Event {
-        Event { ask, room: 200 }
-    }
 
     fn place(address: u16, word: u16) -> Ask {
         Ask::Place { address, word }
@@ -55,7 +48,7 @@ mod tests {
                 address: 0x30,
             },
         ]
-        .map(event)
+        .map(Event::from)
     }
 
     // The turns of task 0 clash with one another, and the feed with the turn of task 1: 420 of the 5,040 orders keep both.
@@ -69,15 +62,7 @@ mod tests {
             Ask::Turn { task: 0 },
             Ask::Tick,
         ]
-        .map(event)
-    }
-
-    fn blank() -> Report {
-        Report {
-            end: Ok(Answer::Done),
-            count: 0,
-            trail: [Entry::Read(Cell::Ram { address: 0 }); 200],
-        }
+        .map(Event::from)
     }
 
     fn low_card() -> ActiveLow<Packed> {
@@ -116,8 +101,8 @@ mod tests {
         let mut ram2 = [0u16; 256];
         let mut first: Plain = Machine::new(Packed::new(), Packed::new());
         let mut second: Piled = Machine::new(low_card(), crossed_card());
-        let mut reports1 = [blank(); 13];
-        let mut reports2 = [blank(); 13];
+        let mut reports1 = [Report::blank(); 13];
+        let mut reports2 = [Report::blank(); 13];
         run(&mut first, &mut ram1, &set_up(), &mut reports1)?;
         run(&mut second, &mut ram2, &set_up(), &mut reports2)?;
         match rehearse(
