@@ -1,4 +1,4 @@
-use Rattle.std.proofs.Common.{◌≡◌, ℕ, cond, ltb, Some, None, Ok, rules, arith}
+use Rattle.std.proofs.Common.{ℕ, ltb, Ok, rules, arith}
 use Rattle.law.specs.Trees.{ret, change}
 use Rattle.cells.specs.declared.Cell.TheVariants.{Input}
 use Rattle.cells.proofs.Following.{go_change, go_ret}
@@ -10,12 +10,10 @@ use Rattle.machine.proofs.Machine.feed.Goals as goal
 
 pub returns-in_err-line : goal.returns-in_err-line
 returns-in_err-line g c =
-    let named : c.ok.result ≡ cond (ltb c.args.line 256) (Some c.args.line) None = grind arith in
-    did_break (λ (n : ℕ). change (Input n) (level c.args.on) (ret Done)) c.args.line (ltb c.args.line 256) named c.in_err-line.ensures _ c.from_residual.ensures.1
+    did_break (λ (n : ℕ). change (Input n) (level c.args.on) (ret Done)) c.args.line (ltb c.args.line 256) (grind arith) c.in_err-line.ensures _ c.from_residual.ensures.1
 
 pub returns : goal.returns
 returns g c =
-    let named : c.ok.result ≡ cond (ltb c.args.line 256) (Some c.args.line) None = grind arith in
     let ran = go_change (c.write_line.ensures c.args.ram.now) go_ret in
     let loan = ran.grows.loan in
-    did_end (λ (n : ℕ). change (Input n) (level c.args.on) (ret Done)) c.args.line (ltb c.args.line 256) named _ (Ok _) c.in_ok-line.ensures c.new-notes.ensures (short_change short_ret) ran c.counted.ensures (search rules)
+    did_end (λ (n : ℕ). change (Input n) (level c.args.on) (ret Done)) c.args.line (ltb c.args.line 256) (grind arith) _ (Ok _) c.in_ok-line.ensures c.new-notes.ensures (short_change short_ret) ran c.counted.ensures (search rules)
