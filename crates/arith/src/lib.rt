@@ -10,6 +10,7 @@ ghost use Rattle.arith.specs.Relations.{holds};
 mod divisions;
 mod shifts;
 
+// Words are taken apart by shifts and masks.
 pub fn high_byte(word: u16) -> u8
     ensures { result ≡ high word }
 {
@@ -26,11 +27,7 @@ pub fn low_byte(word: u16) -> u8
 pub fn widen(byte: u8) -> u16
     ensures { result ≡ widened byte }
 {
-    if byte < 128 {
-        u16::from(byte)
-    } else {
-        u16::from(byte) + 0xFF00
-    }
+    i16::from(byte.cast_signed()).cast_unsigned()
 }
 
 fn join(upper: u8, lower: u8) -> u16
@@ -39,7 +36,7 @@ fn join(upper: u8, lower: u8) -> u16
     u16::from_be_bytes([upper, lower])
 }
 
-// What a command does with its two words. The names of the four moves of a byte say first which byte of the source is
+// What a command does with its two words, the source first, as everywhere here. The names of the four moves of a byte say first which byte of the source is
 // taken, and then which byte of the destination it replaces.
 #[derive(Clone, Copy, PartialEq, Eq, Debug)]
 pub enum Operation {

@@ -11,7 +11,8 @@ pub enum Shift {
 }
 
 impl Shift {
-    // The shift that a source asks for, read as a signed number: to the right where it is negative.
+    // The shift that a source asks for, read as a signed number: to the right where it is negative. An Option and no
+    // TryFrom: of a distance past 31 there is no more to say.
     pub fn new(source: u16) -> Option<Shift>
         ensures { result ≡ shift_of source }
     {

@@ -10,8 +10,8 @@ mod contacts;
 pub mod crossing;
 pub mod wear;
 
-// How many lines a card has. Each card tests numbers against it by itself: if the trait did, in methods with a body,
-// `Wear` could promise no more of its `write` than the trait.
+// How many lines a card has. Each card tests numbers against it by itself. If the trait did, in a `write` with a body, then
+// that of a wear card could not promise what it counts.
 const LINES: u16 = 256;
 
 pub trait Card {
@@ -36,6 +36,7 @@ pub enum CardRefusal {
 }
 
 impl CardRefusal {
+    // The number that the rules give it.
     pub fn number(self) -> u16
         ensures { result ≡ refusal_number self }
     {

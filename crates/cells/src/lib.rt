@@ -22,6 +22,7 @@ pub enum Kind {
 }
 
 impl Kind {
+    // The number that the rules give it.
     pub fn number(self) -> u16
         ensures { result ≡ kind_number self }
     {
@@ -84,7 +85,7 @@ impl Cell {
         }
     }
 
-    // Whether the two are one cell.
+    // Whether the two are one cell: what `==` finds, said by kind, task and number.
     pub fn same(self, other: Cell) -> bool
         ensures { result ≡ same self other }
     {
@@ -106,7 +107,7 @@ impl Cell {
         }
     }
 
-    // The task of the cell, and 0 where it has none.
+    // The task of the cell, and by the rules of the machine 0 where it has none.
     pub fn task(self) -> u16
         ensures { result ≡ task_of self }
     {
@@ -119,7 +120,7 @@ impl Cell {
         }
     }
 
-    // The address, register or line of the cell, and 0 where it has none.
+    // The address, register or line of the cell, and by the rules of the machine 0 where it has none.
     pub fn number(self) -> u16
         ensures { result ≡ number_of self }
     {
@@ -170,8 +171,8 @@ impl<'a> Trail<'a> {
         self.count
     }
 
-    // Writes one entry more. A list that is full stays as it is. By `get_mut` in place of a test and an index the proof does
-    // not close: its goals are then about values that only the checker names.
+    // Writes one entry more. A list that is full stays as it is. With `get_mut` in place of a test and an index the proof does
+    // not close: of a list written through it, only the length is known.
     #[tactic(auto, using(crate::proofs::Noting::adds_one))]
     pub fn note(&mut self, entry: Entry<Cell>)
         ensures { Grows (entry ∷ []) self.old self.new }

@@ -12,12 +12,12 @@ mod tests {
     use std::alloc::{AllocError, Global};
     use std::process::Abort;
     use std::test::Fail;
-    use words::{Reason, Refusal, Site};
+    use words::{Reason, Refusal};
 
     // An entry that no event here writes.
     const MARK: Entry<Cell> = Read(Cell::Ram { address: 0xABCD });
 
-    // A machine with its RAM.
+    // A machine with its RAM. The bench has one too, over any cards and with printing; a program lends nothing to a test.
     #[derive(Drop)]
     struct Desk {
         machine: Machine<Packed, Packed>,
@@ -100,7 +100,7 @@ mod tests {
         Ok(Answered { answer, count })
     }
 
-    // The reason that has a number.
+    // The reason that has a number, by which the tables name it as the rules do.
     fn reason(number: u16) -> Result<Reason, Fail> {
         let reasons = [
             Reason::RamLength,
@@ -116,6 +116,16 @@ mod tests {
         ];
         let found = reasons.into_iter().find(|it| it.number() == number);
         Ok(found.ok_or("no such reason")?)
+    }
+
+    // A refusal that names neither task nor place.
+    fn plain(number: u16) -> Result<Refusal, Fail> {
+        Ok(Refusal {
+            reason: reason(number)?,
+            task: 0,
+            place: 0,
+            operand: 0,
+        })
     }
 
     // RAM's length, and the task and the place of a command.
@@ -318,7 +328,13 @@ mod tests {
             Ran(next) => Ok((said(Answer::Ran, count), next)),
             Halted => Ok((said(Answer::Halted, count), place)),
             No(number, operand) => {
-                let refusal = Site { task, place }.refusal(reason(number)?, operand);
+                let reason = reason(number)?;
+                let refusal = Refusal {
+                    reason,
+                    task,
+                    place,
+                    operand,
+                };
                 Ok((Err(Refused { refusal, count }), place))
             }
         }
@@ -383,7 +399,8 @@ mod tests {
         let mut list = vec![in heap; MARK; room]?;
         let mut desk = Desk::new(heap, size)?;
         let end = desk.call(ask, &mut list);
-        assert_eq!(rt; end, Err(Refused::from(reason(number)?)), "{why}");
+        let refusal = plain(number)?;
+        assert_eq!(rt; end, Err(Refused { refusal, count: 0 }), "{why}");
         listed(rt, &list, &[]);
         assert!(rt;
             desk.same_cells(&Desk::new(heap, size)?),
@@ -465,7 +482,7 @@ mod tests {
             task: 3,
             address: 0x20,
         };
-        let refusal = Refusal::from(reason(4)?);
+        let refusal = plain(4)?;
         assert_eq!(rt;
             desk.call(again, &mut list),
             Err(Refused { refusal, count: 1 })

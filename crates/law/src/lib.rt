@@ -24,8 +24,8 @@ impl<C: Copy> Entry<C> {
         }
     }
 
-    // How the cell was touched, as a number: 0 if it was read, 1 if it was changed. By a match, since variants that hold a
-    // cell have no discriminants.
+    // How the cell was touched, as a number: 0 if it was read, 1 if it was changed. By a match, since a
+    // variant that holds a cell has no number of its own.
     pub fn touch_number(self) -> u16
         ensures { result ≡ touch_number self }
     {

@@ -17,8 +17,8 @@ use std::fmt;
 use store::{Board, Line, State, Store, write_ram};
 use words::{Reason, Refusal, TaskNumber};
 
-// An answer, and how many entries the trail has. A refusal is counted by a record of its own: one record for both would
-// call the two by one name.
+// An answer, and how many entries the trail has. A refusal has a record of its own, with its own field: in a generic one the
+// field would be called neither answer nor refusal.
 #[derive(Clone, Copy, PartialEq, Eq, Debug)]
 pub struct Answered {
     pub answer: Answer,
@@ -149,7 +149,8 @@ impl<I: Card, O: Card> Machine<I, O> {
         Ok(self.store.read_cell(ram, cell))
     }
 
-    // Whether this machine with its RAM and another with its own hold the same in all cells.
+    // Whether this machine with its RAM and another with its own hold the same in all cells. Their cards may be of other
+    // types, so this is no `==`.
     pub fn same_cells<J: Card, P: Card>(
         &self,
         ram: &[u16],

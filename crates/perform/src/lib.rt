@@ -6,7 +6,7 @@ ghost use Rattle.cells.specs.declared.Cell.TheVariants.{Register, Delay};
 ghost use Rattle.cells.specs.Runs.{Goes};
 ghost use Rattle.store.specs.View.{view, cells_of};
 ghost use Rattle.perform.specs.declared.Answer.TheVariants.{Done};
-ghost use Rattle.perform.specs.Perform.{answer_number, move_on, kill, ready_at, abort, count_down, tick_task, ticks, branch, write, invert, halt, perform};
+ghost use Rattle.perform.specs.Perform.{answer_number, timer, move_on, kill, ready_at, abort, count_down, tick_task, ticks, branch, write, invert, halt, perform};
 
 use cards::Card;
 use cells::Trail;
@@ -29,6 +29,7 @@ pub enum Answer {
 }
 
 impl Answer {
+    // The number that the rules give it.
     pub fn number(self) -> u16
         ensures { result ≡ answer_number self }
     {
@@ -47,6 +48,10 @@ impl fmt::Display for Answer {
         })
     }
 }
+
+// The functions below take the board or the store, the task and the trail apart: a struct of these would hold two loans,
+// made anew for each command and taken apart in each step. What belongs to the line comes from the `Action`, whose variants
+// do not all have the same.
 
 // A command ends with the change of its task's place.
 fn move_on(board: &mut Board, t: TaskNumber, place: u16, trail: &mut Trail) -> Answer
@@ -77,7 +82,7 @@ pub fn make_ready(board: &mut Board, t: TaskNumber, address: u16, trail: &mut Tr
     Answer::Done
 }
 
-// Sends a task to its abort address, or stops it where it has none.
+// Sends a task to its abort address, or stops it where it has none, which by the rules of the machine is 0.
 pub fn abort_task(board: &mut Board, t: TaskNumber, trail: &mut Trail) -> Answer
     ensures { (is os : List Bool) (ws : List ℕ) → Goes (abort t) (view board.old is os ws) trail.old result (view board.new is os ws) trail.new }
 {
@@ -97,7 +102,7 @@ pub fn abort_task(board: &mut Board, t: TaskNumber, trail: &mut Trail) -> Answer
 // The timer and the delay have a function each: a shared one would take two closures, to read the cell and to write it, and
 // be longer at both calls.
 fn count_timer(board: &mut Board, t: TaskNumber, trail: &mut Trail)
-    ensures { (is os : List Bool) (ws : List ℕ) → Goes (count_down (Register t 0x78)) (view board.old is os ws) trail.old Done (view board.new is os ws) trail.new }
+    ensures { (is os : List Bool) (ws : List ℕ) → Goes (count_down (Register t timer)) (view board.old is os ws) trail.old Done (view board.new is os ws) trail.new }
 {
     let timer = board.read_register(t, RegisterNumber::TIMER, trail);
     if let Some(left) = timer.checked_sub(1) {
@@ -131,8 +136,6 @@ pub fn tick_tasks(board: &mut Board, trail: &mut Trail) -> Answer
     Answer::Done
 }
 
-// The store, the task and the trail stay apart in what follows: a struct of the three would hold two loans, made anew for
-// each command and taken apart in each step.
 fn branch_on<I: Card, O: Card>(
     store: &mut Store<I, O>,
     t: TaskNumber,

@@ -78,7 +78,8 @@ impl<'a> Words<'a> {
     }
 }
 
-// A command with its words, all checked. The table of codes says which of them it has.
+// A command with its words, all checked. The constant table of codes says which of them a command has, so no variant of
+// `Command` can carry them. Where one is missing it is not asked for, and any value serves.
 #[derive(Clone, Copy, PartialEq, Eq, Debug)]
 pub struct Fetched {
     pub command: Command,
@@ -179,7 +180,8 @@ fn act_on(site: Site, fetched: Fetched, offset: u16) -> Result<Action, Refusal>
     }
 }
 
-// Fetches the command of a task at a place, takes its operands and tests them.
+// Fetches the command of a task at a place, takes its operands and tests them. The task is one that there is, which a `Site`
+// does not say.
 pub fn plan_command(
     board: &Board,
     ram: &[u16],

@@ -154,7 +154,7 @@ fn swap_of(reports: &[Report], order: &[usize], i: usize, j: usize) -> Option<Sw
     })
 }
 
-// Report i against those after it.
+// Report i against those after it. The positions are what is looked for, so the search goes over positions.
 fn swap_after(reports: &[Report], order: &[usize], i: usize) -> Option<Swap>
     requires { i < length reports.now }
     ensures { MatchOption result ((j : ℕ) → i < j → j < length reports.now → Fine reports.now order.now i j) (BrokenAfter reports.now order.now i) }
@@ -168,8 +168,8 @@ fn find_swap(reports: &[Report], order: &[usize]) -> Option<Swap>
     (0..reports.len()).find_map(|i| swap_after(reports, order, i))
 }
 
-// Runs the events at the positions of `order`. The reports are written by their places: of what a zip over `iter_mut`
-// wrote, a proof knows nothing.
+// Runs the events at the positions of `order`. The reports are written by their places, since a proof knows
+// nothing of what was written through a zip of `iter_mut`.
 fn run_in<I: Card, O: Card>(
     machine: &mut Machine<I, O>,
     ram: &mut [u16],
@@ -189,7 +189,8 @@ fn run_in<I: Card, O: Card>(
 
 // Runs the events on the first machine as they stand and, if the order keeps every clashing pair, on the second in that
 // order. Then each event has the same report on both, and all cells end equal: nothing is compared to find that out.
-// The parameters stay apart, since a struct of a machine, its RAM and its reports would only lend the three once more.
+// The parameters stay apart: who calls this has machines, RAM and reports in places of its own, and a struct of three loans
+// would be made here only to be taken apart.
 pub fn rehearse<I: Card, O: Card, J: Card, P: Card>(
     first: &mut Machine<I, O>,
     ram1: &mut [u16],

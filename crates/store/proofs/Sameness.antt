@@ -16,7 +16,7 @@ use Rattle.std.specs.Cmp.{booleans_Decides}
 states_decide : (s t : TaskState) → Decides (state_eq.it s t) (s ≡ t)
 states_decide s t = (λ h. grind arith, λ e. grind arith)
 
-tasks_decide : (a b : Task) → Decides (task_eq.it a b) (a ≡ b)
+pub tasks_decide : (a b : Task) → Decides (task_eq.it a b) (a ≡ b)
 tasks_decide a b =
     Decides-like _
     (λ q i. record { registers = q.0 i; place = q.1.0 i; state = q.1.1.0 i; delay = q.1.1.1 i })

@@ -20,6 +20,7 @@ pub enum State {
 }
 
 impl State {
+    // The number that the rules give it.
     pub fn number(self) -> u16
         ensures { result ≡ state_number self }
     {
@@ -37,7 +38,15 @@ pub struct Task {
 }
 
 impl Task {
-    // A function of its own, since the type of its argument tells the proof how many registers there are.
+    // What `==` finds, said as a fact.
+    #[tactic(auto, using(crate::proofs::Sameness::tasks_decide))]
+    pub fn same_as(&self, other: &Task) -> bool
+        ensures { Decides result (self.now ≡ other.now) }
+    {
+        *self == *other
+    }
+
+    // Tried in place, as the other parts are written: there the proof does not find how many registers the task has.
     fn set_register(&mut self, r: RegisterNumber, v: u16)
         ensures after { self.new ≡ with_register self.old r v }
         ensures within { r < length self.old.registers }
@@ -69,7 +78,7 @@ impl Board {
         }
     }
 
-    // Whether all tasks and flags are the same.
+    // Whether all tasks and flags are the same: what `==` finds, said as a fact.
     #[tactic(auto, using(crate::proofs::Sameness::boards_decide))]
     pub fn same_as(&self, other: &Board) -> bool
         ensures { Decides result (self.now ≡ other.now) }
@@ -77,7 +86,8 @@ impl Board {
         self == other
     }
 
-    // Each kind of cell has a function that reads it and one that writes it, since each names a cell and a field of its own.
+    // A function reads each kind of cell and one writes it. One for all kinds would take the cell, the field and a way from
+    // the field's type to a number, and every call would have to put these together.
     pub fn read_state(&self, t: TaskNumber, trail: &mut Trail) -> State
         ensures { (is os : List Bool) (ws : List ℕ) → Sees (view self.now is os ws) (StateCell t) (state_number result) trail.old trail.new }
     {
@@ -159,6 +169,7 @@ impl Board {
     }
 }
 
+// RAM is lent to each call, so no type can carry that an address is in it.
 pub fn read_ram(ram: &[u16], a: u16, trail: &mut Trail) -> u16
     requires { a < length ram.now }
     ensures { (b : Board) (is os : List Bool) → Sees (view b is os ram.now) (Ram a) result trail.old trail.new }
@@ -244,7 +255,7 @@ impl<I: Card, O: Card> Store<I, O> {
         }
     }
 
-    // Whether this store and another hold the same in all cells.
+    // Whether this store and another hold the same in all cells. Their cards may be of other types, so this is no `==`.
     pub fn same_cells<J: Card, P: Card>(&self, other: &Store<J, P>) -> bool
         ensures { Decides result (Equal I.Card.lines O.Card.lines J.Card.lines P.Card.lines self.now other.now) }
     {
@@ -254,7 +265,7 @@ impl<I: Card, O: Card> Store<I, O> {
     }
 }
 
-// Whether two cards show the same lines.
+// Whether two cards show the same lines. They may be of different types, so this is no `==`.
 pub fn same_lines<C: Card, D: Card>(a: &C, b: &D) -> bool
     ensures { Decides result (C.Card.lines a.now ≡ D.Card.lines b.now) }
 {

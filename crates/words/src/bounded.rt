@@ -23,6 +23,7 @@ impl<const N: u8> Model for Below<N> {
 }
 
 impl<const N: u8> Below<N> {
+    // An Option and no TryFrom, as for the library's numbers that are not zero: of one past the bound there is no more to say.
     pub fn new(number: u16) -> Option<Below<N>>
         ensures { result ≡ below N number }
     {

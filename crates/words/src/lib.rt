@@ -30,6 +30,7 @@ pub enum Reason {
 }
 
 impl Reason {
+    // The number that the rules give it.
     pub fn number(self) -> u16
         ensures { result ≡ reason_number self }
     {
@@ -54,8 +55,8 @@ impl fmt::Display for Reason {
     }
 }
 
-// A refusal is one record, which every call hands up whole. By the rules of the machine its numbers are 0 where it names
-// no task, place or operand.
+// A refusal is one record, which every call hands up whole. Its numbers are by the rules of the machine: the operand is 1
+// for a source, 2 for a destination, and all three are 0 where there is none.
 #[derive(Clone, Copy, PartialEq, Eq, Debug)]
 pub struct Refusal {
     pub reason: Reason,
@@ -144,7 +145,7 @@ impl From<u16> for Head {
 }
 
 // The word after the head of a command of two pairs: its high byte is fixed, and its modes are those of the second pair. It
-// is no Head: one type for both would call a byte that must be 00 a code.
+// is no Head: a type of two modes in both would only put one name more before each mode.
 #[derive(Clone, Copy, PartialEq, Eq, Debug)]
 pub struct Control {
     pub fixed: u8,
@@ -169,7 +170,8 @@ impl From<u16> for Control {
     }
 }
 
-// What a command does with an operand, which decides the modes that it may have.
+// What a command does with an operand, which decides the modes that it may have. A field that is not used has a rule too: it
+// must be 0, and no operand is charged with it. So this is a role, and not the lack of one.
 #[derive(Clone, Copy, PartialEq, Eq, Debug)]
 pub enum Role {
     Unused,
@@ -356,7 +358,7 @@ pub fn source_operand(mode: u8, word: u16, site: Site, operand: u8) -> Result<Op
     found.ok_or(site.refusal(Reason::WrongMode, operand))
 }
 
-// The lines that a bit is counted on.
+// The lines that a bit is counted on, before it is known which of them.
 #[derive(Clone, Copy, PartialEq, Eq, Debug)]
 pub enum Base {
     Inputs,
