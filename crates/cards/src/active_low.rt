@@ -35,12 +35,12 @@ impl<C: Card> Card for ActiveLow<C> {
     ghost size = { λ x. length_lines (flipped_line x.mask (C.Card.lines x.below)) };
 
     fn read(&self, n: u16) -> bool {
-        n < LINES && (self.below.read(n) ^ self.mask[n as usize])
+        n < LINES && (self.below.read(n) ^ self.mask[usize::from(n)])
     }
 
     fn write(&mut self, n: u16, on: bool) {
         if n < LINES {
-            self.below.write(n, on ^ self.mask[n as usize]);
+            self.below.write(n, on ^ self.mask[usize::from(n)]);
         }
     }
 }

@@ -28,7 +28,7 @@ impl Contacts {
         ensures contact { result ≡ slice_index self.now.to n }
         ensures line { result < 256 }
     {
-        u16::from(self.to[n as usize])
+        u16::from(self.to[usize::from(n)])
     }
 
     // The lines a and b exchange their contacts.
@@ -37,7 +37,7 @@ impl Contacts {
         ensures contacts { self.new.to ≡ after_exchange 0 self.old.to a b }
     {
         if a < LINES && b < LINES {
-            self.to.swap(a as usize, b as usize);
+            self.to.swap(usize::from(a), usize::from(b));
             Ok(())
         } else {
             Err(CardRefusal::NoSuchLine)

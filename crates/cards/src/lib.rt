@@ -65,12 +65,12 @@ impl Card for Packed {
     ghost size = { λ x. length_lines (line x.bytes) };
 
     fn read(&self, n: u16) -> bool {
-        n < LINES && (self.bytes[n as usize / 8] >> (n % 8)) % 2 == 1
+        n < LINES && (self.bytes[usize::from(n) / 8] >> (n % 8)) % 2 == 1
     }
 
     fn write(&mut self, n: u16, on: bool) {
         if n < LINES && self.read(n) != on {
-            self.bytes[n as usize / 8] ^= 1 << (n % 8);
+            self.bytes[usize::from(n) / 8] ^= 1 << (n % 8);
         }
     }
 }

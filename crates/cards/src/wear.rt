@@ -24,7 +24,7 @@ impl Wear {
         ensures { result ≡ count_told self.now n }
     {
         self.counts
-            .get(n as usize)
+            .get(usize::from(n))
             .copied()
             .ok_or(CardRefusal::NoSuchLine)
     }
@@ -37,7 +37,7 @@ impl Card for Wear {
     ghost size = { λ x. length_lines (worn x.counts) };
 
     fn read(&self, n: u16) -> bool {
-        n < LINES && self.counts[n as usize] % 2 == 1
+        n < LINES && self.counts[usize::from(n)] % 2 == 1
     }
 
     // A line that is already as it should be is not switched, and not counted.
@@ -46,7 +46,7 @@ impl Card for Wear {
         ensures counts { self.new.counts ≡ counts_after self.old.counts n on }
     {
         if n < LINES && self.read(n) != on {
-            self.counts[n as usize] = self.counts[n as usize].wrapping_add(1);
+            self.counts[usize::from(n)] = self.counts[usize::from(n)].wrapping_add(1);
         }
     }
 }

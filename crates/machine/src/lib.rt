@@ -163,7 +163,8 @@ impl<I: Card, O: Card> Machine<I, O> {
     }
 
     // Each event makes its first tests, takes its step and counts its trail by three calls of its own. One function for all,
-    // with the step as a closure, would be no shorter where it is called, and its contract would speak of both loans.
+    // with the step as a closure, would be no shorter where it is called, and its contract would speak of both loans. RAM
+    // stays a parameter, since it is lent to each call.
 
     // Puts a word into RAM.
     pub fn place(

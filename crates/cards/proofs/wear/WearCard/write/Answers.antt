@@ -7,7 +7,7 @@ use Rattle.cards.proofs.wear.WearCard.write.Goals.{else-n-lt-LINES-via-then-n-lt
 
 pub returns-then-read-on-clause-lines : goal.returns-then-read-on-clause-lines
 returns-then-read-on-clause-lines c =
-    worn_turned c.args.self.now.counts c.args.n c.args.on _ (omega arith) (search rules) c.read.ensures c.if-read-on.true
+    rw (c.from.ensures, c.from-then-read-on.ensures) (worn_turned c.args.self.now.counts c.args.n c.args.on _ (omega arith) (search rules) c.read.ensures c.if-read-on.true)
 
 pub returns-else-n-lt-LINES-clause-counts : goal.returns-else-n-lt-LINES-clause-counts
 returns-else-n-lt-LINES-clause-counts c =
