@@ -36,8 +36,8 @@ fn join(upper: u8, lower: u8) -> u16
     u16::from_be_bytes([upper, lower])
 }
 
-// What a command does with its two words, the source first, as everywhere here. The names of the four moves of a byte say first which byte of the source is
-// taken, and then which byte of the destination it replaces.
+// What a command does with its two words. The source comes first, here and in every function below. The names of the four
+// moves of a byte say first which byte of the source is taken, and then which byte of the destination it replaces.
 #[derive(Clone, Copy, PartialEq, Eq, Debug)]
 pub enum Operation {
     Move,

@@ -11,8 +11,8 @@ pub enum Shift {
 }
 
 impl Shift {
-    // The shift that a source asks for, read as a signed number: to the right where it is negative. An Option and no
-    // TryFrom: of a distance past 31 there is no more to say.
+    // The shift that a source asks for, read as a signed number: to the right where it is negative. An Option and not
+    // TryFrom: there is nothing to add about a distance past 31.
     pub fn new(source: u16) -> Option<Shift>
         ensures { result ≡ shift_of source }
     {

@@ -63,7 +63,7 @@ impl<I: Card + Drop, O: Card + Drop> Desk<I, O> {
         Ok(())
     }
 
-    // Every cell that is not zero, as each is in a new machine.
+    // Every cell that is not zero. In a new machine all are zero.
     pub(crate) fn print_changed(&self, rt: &impl Print) -> io::Result<()> {
         for kind in KINDS {
             for task in 0..32 {

@@ -10,8 +10,8 @@ mod contacts;
 pub mod crossing;
 pub mod wear;
 
-// How many lines a card has. Each card tests numbers against it by itself. If the trait did, in a `write` with a body, then
-// that of a wear card could not promise what it counts.
+// How many lines a card has. Each card tests the number itself, in `read` and in `write`. If `Card` had bodies that test it,
+// the `write` of a wear card could not have its clause on counts.
 const LINES: u16 = 256;
 
 pub trait Card {
@@ -129,8 +129,7 @@ mod tests {
 
     #[test]
     fn a_pile_of_cards(rt: HostRuntime) {
-        let mut mask = [false; 256];
-        mask[3] = true;
+        let mask = std::array::from_fn(|n| n == 3);
         let mut card = Crossing::new(ActiveLow::new(Wear::new(), mask));
         assert!(rt; card.read(3) && !card.read(200), "line 3 is flipped");
         assert_eq!(rt; card.exchange(3, 200), Ok(()));

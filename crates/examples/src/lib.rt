@@ -17,7 +17,8 @@ mod tests {
     // An entry that no event here writes.
     const MARK: Entry<Cell> = Read(Cell::Ram { address: 0xABCD });
 
-    // A machine with its RAM. The bench has one too, over any cards and with printing; a program lends nothing to a test.
+    // A machine with its RAM. The bench has one over any cards, which prints. One for both would have to stand in a crate of
+    // the product, which needs none: RAM is lent to each call.
     #[derive(Drop)]
     struct Desk {
         machine: Machine<Packed, Packed>,
@@ -100,7 +101,7 @@ mod tests {
         Ok(Answered { answer, count })
     }
 
-    // The reason that has a number, by which the tables name it as the rules do.
+    // The reason with this number. The tables give numbers, as the rules of the machine do.
     fn reason(number: u16) -> Result<Reason, Fail> {
         let reasons = [
             Reason::RamLength,
@@ -294,7 +295,7 @@ mod tests {
         Row(TOP, [0x5500, 0, 0], Off, Ran(0), 6, State(0)),
     ];
 
-    // The examples of docs/MACHINE.md, and codes and modes beside them that there are not.
+    // The examples of docs/MACHINE.md, and some codes and modes that do not exist.
     const DOCUMENTED: [Row; 23] = [
         Row(HERE, [0x11CC, 0x20, 0x300], Off, Ran(0x13), 8, In(3, 0)),
         Row(HERE, [0x11CC, 0x20, 0x300], Fed(3), Ran(0x20), 8, In(3, 1)),

@@ -24,8 +24,8 @@ impl<C: Copy> Entry<C> {
         }
     }
 
-    // How the cell was touched, as a number: 0 if it was read, 1 if it was changed. By a match, since a
-    // variant that holds a cell has no number of its own.
+    // How the cell was touched, as a number: 0 if it was read, 1 if it was changed. By a match, since an
+    // enum whose variants hold a cell cannot be cast to a number.
     pub fn touch_number(self) -> u16
         ensures { result ≡ touch_number self }
     {
@@ -46,7 +46,7 @@ impl<C: fmt::Display> fmt::Display for Entry<C> {
     }
 }
 
-// The law itself, whose proof the contract owes.
+// The law of order. It stands in the contract, so it has to be proved.
 pub fn order_law<C, A, B, R>()
     ensures { OrderLaw C A B R }
 {}

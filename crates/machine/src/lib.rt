@@ -17,8 +17,8 @@ use std::fmt;
 use store::{Board, Line, State, Store, write_ram};
 use words::{Reason, Refusal, TaskNumber};
 
-// An answer, and how many entries the trail has. A refusal has a record of its own, with its own field: in a generic one the
-// field would be called neither answer nor refusal.
+// An answer, and how many entries the trail has: the list is the caller's, so its count is told. A refusal has a record of
+// its own: in a generic one the field would be called neither answer nor refusal.
 #[derive(Clone, Copy, PartialEq, Eq, Debug)]
 pub struct Answered {
     pub answer: Answer,
@@ -125,7 +125,7 @@ impl<I: Card, O: Card> Machine<I, O> {
         }
     }
 
-    // The cards, for questions of their own.
+    // Lends the cards out to be asked, for example for a wear card's counts.
     pub fn inputs(&self) -> &I
         ensures { result.now ≡ self.now.store.inputs }
     {
@@ -163,8 +163,8 @@ impl<I: Card, O: Card> Machine<I, O> {
     }
 
     // Each event makes its first tests, takes its step and counts its trail by three calls of its own. One function for all,
-    // with the step as a closure, would be no shorter where it is called, and its contract would speak of both loans. RAM
-    // stays a parameter, since it is lent to each call.
+    // with the step as a closure, would be no shorter where it is called, and its contract would have to speak of RAM and of
+    // the list. RAM stays a parameter, since it is lent to each call.
 
     // Puts a word into RAM.
     pub fn place(

@@ -87,7 +87,7 @@ mod tests {
         })
     }
 
-    // Each event of the second run, told by its position, came to what it came to in the first.
+    // Whether report k of the second run is that of the event at position order[k] in the first.
     fn same_reports(order: &[usize], first: &[Report], second: &[Report]) -> bool {
         order.iter().enumerate().all(|(k, position)| {
             second.get(k).is_some() && first.get(*position) == second.get(k)

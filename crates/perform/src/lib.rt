@@ -50,8 +50,8 @@ impl fmt::Display for Answer {
 }
 
 // The functions below take the board or the store, the task and the trail apart: a struct of these would hold two loans,
-// made anew for each command and taken apart in each step. What belongs to the line comes from the `Action`, whose variants
-// do not all have the same.
+// made anew for each command and taken apart in each step. Line, value and next stay parameters too: each variant of `Action`
+// has only some of them.
 
 // A command ends with the change of its task's place.
 fn move_on(board: &mut Board, t: TaskNumber, place: u16, trail: &mut Trail) -> Answer
@@ -126,7 +126,7 @@ fn tick_task(board: &mut Board, t: TaskNumber, trail: &mut Trail)
     count_delay(board, t, trail);
 }
 
-// Counts the timers and delays of all tasks down.
+// Counts the timers and delays of all tasks down, task by task.
 pub fn tick_tasks(board: &mut Board, trail: &mut Trail) -> Answer
     ensures { (is os : List Bool) (ws : List ℕ) → Goes (ticks 32) (view board.old is os ws) trail.old result (view board.new is os ws) trail.new }
 {
@@ -196,7 +196,7 @@ fn halt_while<I: Card, O: Card>(
     move_on(&mut store.board, t, next, trail)
 }
 
-// Does what is left of a command of task t.
+// Does what is left of a command of task t. Commands are words in RAM, so they are the cases of an enum and no closures.
 pub fn perform_action<I: Card, O: Card>(
     store: &mut Store<I, O>,
     t: TaskNumber,

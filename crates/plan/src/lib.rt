@@ -79,7 +79,7 @@ impl<'a> Words<'a> {
 }
 
 // A command with its words, all checked. The constant table of codes says which of them a command has, so no variant of
-// `Command` can carry them. Where one is missing it is not asked for, and any value serves.
+// `Command` can carry them. Where one is missing its value is not used, and a stand-in serves: 0, the flags, the next place.
 #[derive(Clone, Copy, PartialEq, Eq, Debug)]
 pub struct Fetched {
     pub command: Command,
@@ -134,7 +134,7 @@ pub enum Action {
 fn take_value(board: &Board, t: TaskNumber, source: Option<Operand>, trail: &mut Trail) -> u16
     ensures { (is os : List Bool) (ws : List ℕ) → Finds (value t source) (view board.now is os ws) trail.old (Ok result) trail.new }
 {
-    // in two steps, since one match over both enums does not prove
+    // in two steps: tried as one match over both enums, where the proof does not close
     let Some(source) = source else {
         return 0;
     };
@@ -144,7 +144,8 @@ fn take_value(board: &Board, t: TaskNumber, source: Option<Operand>, trail: &mut
     }
 }
 
-// The line at an offset from a base. It is off its base past line 255.
+// The line with this number on a base. A number above 255 is refused. Only a command without a base has None here, and its
+// line is not used.
 fn locate(site: Site, base: Option<Base>, offset: u16) -> Result<Line, Refusal>
     ensures { result ≡ line_at site base offset }
 {
@@ -180,8 +181,8 @@ fn act_on(site: Site, fetched: Fetched, offset: u16) -> Result<Action, Refusal>
     }
 }
 
-// Fetches the command of a task at a place, takes its operands and tests them. The task is one that there is, which a `Site`
-// does not say.
+// Fetches the command of a task at a place, takes its operands and tests them. The task is a `TaskNumber`, since the
+// task of a `Site` may be any byte.
 pub fn plan_command(
     board: &Board,
     ram: &[u16],

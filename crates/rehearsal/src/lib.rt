@@ -189,8 +189,8 @@ fn run_in<I: Card, O: Card>(
 
 // Runs the events on the first machine as they stand and, if the order keeps every clashing pair, on the second in that
 // order. Then each event has the same report on both, and all cells end equal: nothing is compared to find that out.
-// The parameters stay apart: who calls this has machines, RAM and reports in places of its own, and a struct of three loans
-// would be made here only to be taken apart.
+// The parameters stay apart: who calls this has machines, RAM and reports in places of its own, and would have to build a
+// struct of three loans only for this call.
 pub fn rehearse<I: Card, O: Card, J: Card, P: Card>(
     first: &mut Machine<I, O>,
     ram1: &mut [u16],

@@ -28,7 +28,7 @@ impl State {
     }
 }
 
-// The record of one task.
+// The record of one task. All tables here have one length, so that a machine is fixed memory.
 #[derive(Clone, Copy, PartialEq, Eq, Debug)]
 pub struct Task {
     registers: [u16; 128],
@@ -38,7 +38,7 @@ pub struct Task {
 }
 
 impl Task {
-    // What `==` finds, said as a fact.
+    // The answer of `==`. The contract says that it decides whether the two are the same.
     #[tactic(auto, using(crate::proofs::Sameness::tasks_decide))]
     pub fn same_as(&self, other: &Task) -> bool
         ensures { Decides result (self.now ≡ other.now) }
@@ -46,7 +46,8 @@ impl Task {
         *self == *other
     }
 
-    // Tried in place, as the other parts are written: there the proof does not find how many registers the task has.
+    // A function of its own: when the register is written like the other parts, the proof does not find how many registers
+    // the task has.
     fn set_register(&mut self, r: RegisterNumber, v: u16)
         ensures after { self.new ≡ with_register self.old r v }
         ensures within { r < length self.old.registers }
@@ -78,7 +79,7 @@ impl Board {
         }
     }
 
-    // Whether all tasks and flags are the same: what `==` finds, said as a fact.
+    // The answer of `==`. The contract says that it decides whether all tasks and flags are the same.
     #[tactic(auto, using(crate::proofs::Sameness::boards_decide))]
     pub fn same_as(&self, other: &Board) -> bool
         ensures { Decides result (self.now ≡ other.now) }
@@ -86,8 +87,8 @@ impl Board {
         self == other
     }
 
-    // A function reads each kind of cell and one writes it. One for all kinds would take the cell, the field and a way from
-    // the field's type to a number, and every call would have to put these together.
+    // Each kind of cell has one function that reads it and one that writes it. One function for all would take the cell, the
+    // field and a way from the field's type to a number, and every call would have to put these together.
     pub fn read_state(&self, t: TaskNumber, trail: &mut Trail) -> State
         ensures { (is os : List Bool) (ws : List ℕ) → Sees (view self.now is os ws) (StateCell t) (state_number result) trail.old trail.new }
     {
@@ -133,7 +134,8 @@ impl Board {
     {
         let task = t.get();
         trail.note(Entry::Changed(Cell::State { task }));
-        self.tasks[usize::from(task)].state = v;
+        let record = &mut self.tasks[usize::from(task)];
+        record.state = v;
     }
 
     pub fn write_place(&mut self, t: TaskNumber, v: u16, trail: &mut Trail)
@@ -141,7 +143,8 @@ impl Board {
     {
         let task = t.get();
         trail.note(Entry::Changed(Cell::Place { task }));
-        self.tasks[usize::from(task)].place = v;
+        let record = &mut self.tasks[usize::from(task)];
+        record.place = v;
     }
 
     pub fn write_delay(&mut self, t: TaskNumber, v: u16, trail: &mut Trail)
@@ -149,7 +152,8 @@ impl Board {
     {
         let task = t.get();
         trail.note(Entry::Changed(Cell::Delay { task }));
-        self.tasks[usize::from(task)].delay = v;
+        let record = &mut self.tasks[usize::from(task)];
+        record.delay = v;
     }
 
     pub fn write_register(&mut self, t: TaskNumber, r: RegisterNumber, v: u16, trail: &mut Trail)
@@ -186,7 +190,7 @@ pub fn write_ram(ram: &mut [u16], a: u16, v: u16, trail: &mut Trail)
     ram[usize::from(a)] = v;
 }
 
-// A line of a card, or a flag.
+// A line of a card, or a flag, by its number. `words` has the kinds alone, since a mode names no number.
 #[derive(Clone, Copy, PartialEq, Eq, Debug)]
 pub enum Line {
     Input(u8),

@@ -23,7 +23,7 @@ impl<const N: u8> Model for Below<N> {
 }
 
 impl<const N: u8> Below<N> {
-    // An Option and no TryFrom, as for the library's numbers that are not zero: of one past the bound there is no more to say.
+    // An Option and not TryFrom, like the library's NonZero: there is nothing to add about a number past the bound.
     pub fn new(number: u16) -> Option<Below<N>>
         ensures { result ≡ below N number }
     {

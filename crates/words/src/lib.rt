@@ -55,8 +55,8 @@ impl fmt::Display for Reason {
     }
 }
 
-// A refusal is one record, which every call hands up whole. Its numbers are by the rules of the machine: the operand is 1
-// for a source, 2 for a destination, and all three are 0 where there is none.
+// A refusal is one record, which every call hands up whole. By the rules of the machine a task, a place or an operand that
+// is absent is 0, and the operand is 1 for a source and 2 for a destination.
 #[derive(Clone, Copy, PartialEq, Eq, Debug)]
 pub struct Refusal {
     pub reason: Reason,
@@ -192,7 +192,7 @@ impl Role {
         }
     }
 
-    // The operand that a wrong mode is charged to: none where the field is not used.
+    // The operand that a wrong mode is charged to. By the rules of the machine it is 0, none, where the field is not used.
     pub fn at_fault(self, operand: u8) -> u8
         ensures { result ≡ at_fault self operand }
     {
@@ -237,7 +237,7 @@ impl Layout {
     }
 }
 
-// No operand.
+// The layout of a command without operands, and of unknown codes.
 const BARE: Layout = Layout {
     jump: false,
     first: None,
@@ -358,7 +358,7 @@ pub fn source_operand(mode: u8, word: u16, site: Site, operand: u8) -> Result<Op
     found.ok_or(site.refusal(Reason::WrongMode, operand))
 }
 
-// The lines that a bit is counted on, before it is known which of them.
+// Which kind of lines the number of a bit counts, before the number is known.
 #[derive(Clone, Copy, PartialEq, Eq, Debug)]
 pub enum Base {
     Inputs,
