@@ -21,6 +21,7 @@ impl<C: Card> ActiveLow<C> {
         ActiveLow { below, mask }
     }
 
+    // Each card that stands on another lends that one, a field of its own.
     pub fn below(&self) -> &C
         ensures { result.now ≡ self.now.below }
     {

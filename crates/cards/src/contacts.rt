@@ -23,6 +23,7 @@ impl Contacts {
         }
     }
 
+    // The number is of 16 bits, as in the interface of a card, which this serves.
     pub fn of(&self, n: u16) -> u16
         requires { n < 256 }
         ensures contact { result ≡ slice_index self.now.to n }

@@ -27,6 +27,7 @@ impl<C: Card> Crossing<C> {
         }
     }
 
+    // Each card that stands on another lends that one, a field of its own.
     pub fn below(&self) -> &C
         ensures { result.now ≡ self.now.below }
     {

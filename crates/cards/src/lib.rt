@@ -36,7 +36,7 @@ pub enum CardRefusal {
 }
 
 impl CardRefusal {
-    // The number that the rules give it.
+    // The number that the rules give it. Each enum casts itself, since a cast takes no type parameter.
     pub fn number(self) -> u16
         ensures { result ≡ refusal_number self }
     {

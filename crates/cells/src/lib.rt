@@ -22,7 +22,7 @@ pub enum Kind {
 }
 
 impl Kind {
-    // The number that the rules give it.
+    // The number that the rules give it. Each enum casts itself, since a cast takes no type parameter.
     pub fn number(self) -> u16
         ensures { result ≡ kind_number self }
     {
@@ -45,7 +45,8 @@ impl fmt::Display for Kind {
     }
 }
 
-// One cell. A line is a byte, since there are 256 of each kind.
+// One cell. A line is a byte, since there are 256 of each kind. Tasks and registers are plain bytes too, since anyone may
+// write down a cell, and only `Cell::new` says which there are.
 #[derive(Clone, Copy, PartialEq, Eq, Debug)]
 pub enum Cell {
     Ram { address: u16 },

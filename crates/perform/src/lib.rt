@@ -29,7 +29,7 @@ pub enum Answer {
 }
 
 impl Answer {
-    // The number that the rules give it.
+    // The number that the rules give it. Each enum casts itself, since a cast takes no type parameter.
     pub fn number(self) -> u16
         ensures { result ≡ answer_number self }
     {

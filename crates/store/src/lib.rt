@@ -20,7 +20,7 @@ pub enum State {
 }
 
 impl State {
-    // The number that the rules give it.
+    // The number that the rules give it. Each enum casts itself, since a cast takes no type parameter.
     pub fn number(self) -> u16
         ensures { result ≡ state_number self }
     {
@@ -239,7 +239,7 @@ impl<I: Card, O: Card> Store<I, O> {
         }
     }
 
-    // What any one cell holds, with no entry in a trail.
+    // What any one cell holds, with no entry in a trail: for questions, which the functions above would list.
     pub fn read_cell(&self, ram: &[u16], cell: Cell) -> u16
         requires { There (length ram.now) cell }
         ensures { result ≡ cells_of I.Card.lines O.Card.lines self.now ram.now cell }

@@ -30,7 +30,7 @@ pub enum Reason {
 }
 
 impl Reason {
-    // The number that the rules give it.
+    // The number that the rules give it. Each enum casts itself, since a cast takes no type parameter.
     pub fn number(self) -> u16
         ensures { result ≡ reason_number self }
     {
@@ -181,6 +181,7 @@ pub enum Role {
 }
 
 impl Role {
+    // A mode is the number in its four bits, and not a case of an enum: most numbers are a mode for some command only.
     pub fn admits(self, mode: u8) -> bool
         ensures { result ≡ admits self mode }
     {
