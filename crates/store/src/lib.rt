@@ -57,7 +57,7 @@ impl Task {
 }
 
 // The plain part of a machine: its table of tasks, and its flags.
-#[derive(Clone, PartialEq, Eq, Debug, Drop)]
+#[derive(PartialEq, Eq, Debug, Drop)]
 pub struct Board {
     tasks: [Task; 32],
     flags: [bool; 256],
