@@ -9,15 +9,16 @@ use words::RegisterNumber;
 
 const WORDS: usize = 256;
 
-const KINDS: [Kind; 8] = [
-    Kind::Ram,
-    Kind::Register,
-    Kind::Place,
-    Kind::State,
-    Kind::Delay,
-    Kind::Flag,
-    Kind::Input,
-    Kind::Output,
+// Each kind of cell, with how many tasks and how many numbers its cells have.
+const KINDS: [(Kind, u16, u16); 8] = [
+    (Kind::Ram, 1, 256),
+    (Kind::Register, 32, 128),
+    (Kind::Place, 32, 1),
+    (Kind::State, 32, 1),
+    (Kind::Delay, 32, 1),
+    (Kind::Flag, 1, 256),
+    (Kind::Input, 1, 256),
+    (Kind::Output, 1, 256),
 ];
 
 #[derive(Drop)]
@@ -65,12 +66,12 @@ impl<I: Card + Drop, O: Card + Drop> Desk<I, O> {
 
     // Every cell that is not zero. In a new machine all are zero.
     pub(crate) fn print_changed(&self, rt: &impl Print) -> io::Result<()> {
-        for kind in KINDS {
-            for task in 0..32 {
-                for number in 0..256 {
-                    if let Some(cell) = Cell::new(WORDS, kind, task, number)
-                        && let Some(value) = self.value(cell)
+        for (kind, tasks, numbers) in KINDS {
+            for task in 0..tasks {
+                for number in 0..numbers {
+                    if let Ok(value) = self.machine.cell(&self.ram, kind, task, number)
                         && value != 0
+                        && let Some(cell) = Cell::new(WORDS, kind, task, number)
                     {
                         print_cell(rt, cell, value)?;
                     }

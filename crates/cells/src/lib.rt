@@ -66,22 +66,31 @@ impl Cell {
         ensures value { result ≡ named size kind task number }
         ensures there { IfSome result (There size) }
     {
-        let owner = TaskNumber::new(task).map(TaskNumber::get);
-        let line = u8::try_from(number).ok().filter(|_| task == 0);
         match kind {
             Kind::Ram if task == 0 && usize::from(number) < size => Some(Cell::Ram {
                 address: number,
             }),
             Kind::Register => {
                 let number = RegisterNumber::new(number)?.get();
-                owner.map(|task| Cell::Register { task, number })
+                TaskNumber::new(task).map(|t| Cell::Register {
+                    task: t.get(),
+                    number,
+                })
             }
-            Kind::Place if number == 0 => owner.map(|task| Cell::Place { task }),
-            Kind::State if number == 0 => owner.map(|task| Cell::State { task }),
-            Kind::Delay if number == 0 => owner.map(|task| Cell::Delay { task }),
-            Kind::Flag => line.map(|line| Cell::Flag { line }),
-            Kind::Input => line.map(|line| Cell::Input { line }),
-            Kind::Output => line.map(|line| Cell::Output { line }),
+            Kind::Place if number == 0 => TaskNumber::new(task).map(|t| Cell::Place {
+                task: t.get(),
+            }),
+            Kind::State if number == 0 => TaskNumber::new(task).map(|t| Cell::State {
+                task: t.get(),
+            }),
+            Kind::Delay if number == 0 => TaskNumber::new(task).map(|t| Cell::Delay {
+                task: t.get(),
+            }),
+            Kind::Flag if task == 0 => u8::try_from(number).ok().map(|line| Cell::Flag { line }),
+            Kind::Input if task == 0 => u8::try_from(number).ok().map(|line| Cell::Input { line }),
+            Kind::Output if task == 0 => u8::try_from(number)
+                .ok()
+                .map(|line| Cell::Output { line }),
             _ => None,
         }
     }

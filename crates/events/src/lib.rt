@@ -128,7 +128,9 @@ pub fn call<I: Card, O: Card>(
     }
 }
 
-// Runs one event. No trail is longer than 200, so a longer list is not needed.
+// Runs one event. No trail is longer than 200, so a longer list is not needed. A part of each caller, so that a report is made
+// where it is wanted, and not copied.
+#[inline(always)]
 pub fn apply<I: Card, O: Card>(machine: &mut Machine<I, O>, ram: &mut [u16], event: Event) -> Report
     ensures { Does (tree (length ram.old) event) (cells_of I.Card.lines O.Card.lines machine.old ram.old) result (cells_of I.Card.lines O.Card.lines machine.new ram.new) }
 {

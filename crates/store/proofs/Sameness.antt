@@ -1,5 +1,5 @@
 -- The tests of two boards and of two cards' lines say yes exactly if they are the same.
-use Rattle.std.proofs.Common.{◌≡◌, ℕ, ◌<◌, Bool, true, false, List, length, get_or, sym, refl, ◌∙◌, arith, Decides, ext_get_or}
+use Rattle.std.proofs.Common.{◌≡◌, ◌==◌, ℕ, ◌<◌, Bool, true, false, List, length, get_or, sym, refl, ◌∙◌, arith, Decides, ext_get_or}
 use Rattle.std.specs.Bool.{MatchBool}
 use Rattle.std.specs.List.{range_with_len, AllWithin, HoldsAt}
 use Rattle.std.proofs.lemmas.Bool.Decides.{Decides-and, Decides-eqb, Decides-like}
@@ -8,22 +8,21 @@ use Rattle.std.proofs.lemmas.Slice.Eq.{slice_eq-Decides}
 use Rattle.store.specs.declared.State.{State as TaskState}
 use Rattle.store.specs.declared.Task.{Task}
 use Rattle.store.specs.declared.Board.{Board}
-use Rattle.store.specs.contracts.StatePartialEq.TheImpl.{eq-value as state_eq}
-use Rattle.store.specs.contracts.TaskPartialEq.TheImpl.{eq-value as task_eq}
+use Rattle.store.specs.View.{state_number, task_eq}
 use Rattle.store.specs.contracts.BoardPartialEq.TheImpl.{eq-value as board_eq}
 use Rattle.std.specs.Cmp.{booleans_Decides}
 
-states_decide : (s t : TaskState) → Decides (state_eq.it s t) (s ≡ t)
+states_decide : (s t : TaskState) → Decides (state_number s == state_number t) (s ≡ t)
 states_decide s t = (λ h. grind arith, λ e. grind arith)
 
-pub tasks_decide : (a b : Task) → Decides (task_eq.it a b) (a ≡ b)
+pub tasks_decide : (a b : Task) → Decides (task_eq a b) (a ≡ b)
 tasks_decide a b =
     Decides-like _
-    (λ q i. record { registers = q.0 i; place = q.1.0 i; state = q.1.1.0 i; delay = q.1.1.1 i })
-    (λ e. rw e (refl, (refl, (refl, refl))))
-    (Decides-and _ _ (slice_eq-Decides Decides-eqb a.registers b.registers _ refl)
-    (Decides-and _ _ (Decides-eqb a.place b.place)
-    (Decides-and _ _ (states_decide a.state b.state) (Decides-eqb a.delay b.delay))))
+    (λ q i. record { registers = q.1.1 i; place = q.0.0 i; state = q.0.1 i; delay = q.1.0 i })
+    (λ e. rw e ((refl, refl), (refl, refl)))
+    (Decides-and _ _
+    (Decides-and _ _ (Decides-eqb a.place b.place) (states_decide a.state b.state))
+    (Decides-and _ _ (Decides-eqb a.delay b.delay) (slice_eq-Decides Decides-eqb a.registers b.registers _ refl)))
 
 pub boards_decide : (a b : Board) → Decides (board_eq.it a b) (a ≡ b)
 boards_decide a b =

@@ -1,5 +1,7 @@
 -- What the cells of a machine hold, from its tasks and flags, RAM and the lines of its two cards.
-use Rattle.std.specs.Prelude.{◌≡◌, ℕ, Bool, false, cond, List, [], slice_index, slice_index_or, slice_set}
+use Rattle.std.specs.Prelude.{◌≡◌, ◌==◌, ℕ, Bool, false, cond, List, [], slice_index, slice_index_or, slice_set}
+use Rattle.std.specs.Ordering.{on, eq_of_both}
+use Rattle.std.specs.Cmp.Lexicographic.{pointwise}
 use Rattle.law.specs.Trees.{Contents}
 use Rattle.cells.specs.declared.Cell.{Cell}
 use Rattle.cells.specs.declared.Cell.TheVariants.{Ram, Register, Place, State, Delay, Flag, Input, Output}
@@ -69,3 +71,9 @@ line_cell (line.Flag n) = Flag n
 -- a task with one register changed
 abbrev pub with_register : Task → ℕ → ℕ → Task
 with_register k r v = record { registers = slice_set k.registers r v; place = k.place; state = k.state; delay = k.delay }
+
+-- whether two tasks are the same in each part
+abbrev pub task_eq : Task → Task → Bool
+task_eq =
+    eq_of_both (eq_of_both (on (λ k. k.place) ◌==◌) (on (λ k. state_number k.state) ◌==◌))
+    (eq_of_both (on (λ k. k.delay) ◌==◌) (on (λ k. k.registers) (pointwise ◌==◌)))

@@ -6,7 +6,9 @@ ghost use Rattle.cells.specs.declared.Cell.{Cell};
 ghost use Rattle.cells.specs.declared.Cell.TheVariants.{Register, Place, State as StateCell, Delay, Flag, Ram};
 ghost use Rattle.cells.specs.Cells.{There};
 ghost use Rattle.cells.specs.Runs.{Sees, Pokes};
-ghost use Rattle.store.specs.View.{state_number, level, view, cells_of, new_cells, line_cell, with_register, Equal};
+ghost use Rattle.store.specs.View.{state_number, level, view, cells_of, new_cells, line_cell, task_eq, with_register, Equal};
+ghost use Rattle.std.specs.Cmp.Rules.{comparing};
+ghost use Rattle.std.proofs.Common.{rules};
 
 use cards::Card;
 use cells::{Cell, Trail};
@@ -29,7 +31,7 @@ impl State {
 }
 
 // The record of one task. All tables here have one length, so that a machine is fixed memory.
-#[derive(Clone, Copy, PartialEq, Eq, Debug)]
+#[derive(Clone, Copy, Eq, Debug)]
 pub struct Task {
     registers: [u16; 128],
     place: u16,
@@ -53,6 +55,25 @@ impl Task {
         ensures within { r < length self.old.registers }
     {
         self.registers[usize::from(r.get())] = v;
+    }
+}
+
+// Two records are the same if all their parts are. Written out, since a derived `==` promises the test alone, and not that it
+// decides whether the two are the same.
+impl PartialEq for Task {
+    ghost eq = { task_eq };
+
+    ghost laws = { Prim.search (comparing, rules) };
+
+    #[tactic(auto, using(crate::proofs::Sameness::tasks_decide))]
+    fn eq(&self, other: &Task) -> bool
+        ensures tested { result ≡ task_eq self.now other.now }
+        ensures decided { Decides result (self.now ≡ other.now) }
+    {
+        self.place == other.place
+            && self.state == other.state
+            && self.delay == other.delay
+            && self.registers[..] == other.registers[..]
     }
 }
 

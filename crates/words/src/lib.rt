@@ -280,6 +280,8 @@ const BIT_ROWS: [Layout; 8] = [
 
 const JUMP_ROWS: [Layout; 8] = [JUMP, BARE, BARE, BARE, BARE, BARE, BARE, BARE];
 
+// Each turn asks for it twice, and a copy of a layout costs more than finding it.
+#[inline]
 pub fn layout_of(code: u8) -> Layout
     ensures { result ≡ layout code }
 {
