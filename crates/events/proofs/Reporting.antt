@@ -66,17 +66,17 @@ over_first t n h = ⊎_elim
     (λ (l : 200 ≤ n). rw (take_all n blanks l, drop_all n blanks l) (append-nil (over t blanks)))
     (cases_lt n 200)
 
--- a call on the first n of the blanks
-pub does : (size n : ℕ) (e : Event) {s s' : Contents Cell} {r r' : Result Answered Refused} {new : List (Entry Cell)}
-    → n ≡ min e.room 200
-    → Did (asked_tree size (length (take n blanks)) e.ask) s (take n blanks) r s' new
+-- a call on the first n of the blanks, of the tree of what was asked
+pub does : (size n : ℕ) (e : Event) {called : Steps Answer} {s s' : Contents Cell} {r r' : Result Answered Refused} {new : List (Entry Cell)}
+    → n ≡ min e.room 200 → called ≡ asked_tree size (length (take n blanks)) e.ask
+    → Did called s (take n blanks) r s' new
     → r ≡ r'
     → Does (tree size e) s (report_of r' (new ++ drop n blanks)) s'
 unfolding blanks
-does size n e {s = s} {s' = s'} {r' = r'} {new = new} h did is =
+does size n e {s = s} {s' = s'} {r' = r'} {new = new} h asked did is =
     let m = asked_tree size n e.ask in
     let t = (run same m s).trail in
-    let d = rw (length-take-le n blanks (omega arith)) at did in
+    let d = rw (asked, length-take-le n blanks (omega arith)) at did in
     let list : new ++ drop n blanks ≡ over t blanks = rw d.list (over_first t n (lists_none size n e.ask s)) in
     let does : Does m s (report_of r' (new ++ drop n blanks)) s' = record {
       tells = ap₂ report_of (sym is ∙ d.result) list ∙ of_counted (run same m s).end (length t) (over t blanks);

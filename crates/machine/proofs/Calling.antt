@@ -59,10 +59,11 @@ module _ {T : Type 0} (m : T → Steps Answer) (k : T) where
         → (o : Result Answered Refused) → IsErrAnd o (λ y. y ≡ e) → Did (admitted size room there (m k)) s old o s old
     did_break a o by = let q = err_from_is_err_and o by in rw (q.1, q.2) (refused _ there _ (rw is at a.value))
 
-    pub did_end : {s s' : Contents Cell} {x : T} {l : MutBor (List (Entry Cell))} {t : Trail} (t' : Trail) (r : Result Answer Refusal) {o : Result Answered Refused} {new : List (Entry Cell)}
-        → Admits (Ok x) size (length l.now) named → Fresh l t → Short 200 (m x) → Ends (m x) s t r s' t' → o ≡ counted r t'.count → new ≡ t'.entries.now
+    -- the code followed n, which is the tree of what was named
+    pub did_end : {s s' : Contents Cell} {x : T} {n : Steps Answer} {l : MutBor (List (Entry Cell))} {t : Trail} (t' : Trail) (r : Result Answer Refusal) {o : Result Answered Refused} {new : List (Entry Cell)}
+        → Admits (Ok x) size (length l.now) named → Fresh l t → Short 200 (m x) → n ≡ m x → Ends n s t r s' t' → o ≡ counted r t'.count → new ≡ t'.entries.now
         → Did (admitted size (length l.now) there (m k)) s l.now o s' new
-    did_end t' r a fresh short ends c e = passed _ there _ (rw is at a.value) (did t' r fresh short a.passed.wide ends c e)
+    did_end t' r a fresh short same ends c e = passed _ there _ (rw is at a.value) (did t' r fresh short a.passed.wide (rw same at ends) c e)
 
 -- a refusal that came up from below, after reads alone
 pub ends_refused : {m : Steps Answer} {s s' : Contents Cell} {t t' : Trail} (e : Refusal) (o : Result Answer Refusal) → IsErrAnd o (λ y. y ≡ e)

@@ -12,4 +12,4 @@ returns g c =
     let m = c.args.self.now.store in
     let ran = c.abort_task-answer.ensures (g.I.Card.lines m.inputs) (g.O.Card.lines m.outputs) c.args.ram.now in
     let loan = ran.grows.loan in
-    did_end abort c.args.task (ltb c.args.task 32) c.new.ensures _ (Ok _) c.in_ok-task.ensures c.new-notes.ensures (short_away _) ran c.counted.ensures (search rules)
+    did_end abort c.args.task (ltb c.args.task 32) c.new.ensures _ (Ok _) c.in_ok-task.ensures c.new-notes.ensures (short_away _) (search rules) ran c.counted.ensures (search rules)

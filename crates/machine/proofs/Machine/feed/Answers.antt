@@ -16,4 +16,4 @@ pub returns : goal.returns
 returns g c =
     let ran = go_change (c.write_line.ensures c.args.ram.now) go_ret in
     let loan = ran.grows.loan in
-    did_end (λ (n : ℕ). change (Input n) (level c.args.on) (ret Done)) c.args.line (ltb c.args.line 256) (grind arith) _ (Ok _) c.in_ok-line.ensures c.new-notes.ensures (short_change short_ret) ran c.counted.ensures (search rules)
+    did_end (λ (n : ℕ). change (Input n) (level c.args.on) (ret Done)) c.args.line (ltb c.args.line 256) (grind arith) _ (Ok _) c.in_ok-line.ensures c.new-notes.ensures (short_change short_ret) (search rules) ran c.counted.ensures (search rules)

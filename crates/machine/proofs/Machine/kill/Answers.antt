@@ -12,4 +12,4 @@ returns g c =
     let m = c.args.self.now.store in
     let ran = c.end_task-answer.ensures (g.I.Card.lines m.inputs) (g.O.Card.lines m.outputs) c.args.ram.now in
     let loan = ran.grows.loan in
-    did_end kill c.args.task (ltb c.args.task 32) c.new.ensures _ (Ok _) c.in_ok-task.ensures c.new-notes.ensures (short_end _) ran c.counted.ensures (search rules)
+    did_end kill c.args.task (ltb c.args.task 32) c.new.ensures _ (Ok _) c.in_ok-task.ensures c.new-notes.ensures (short_end _) (search rules) ran c.counted.ensures (search rules)

@@ -18,4 +18,4 @@ returns g c =
     let there = ltb c.args.address (length c.args.ram.now) in
     let ran = go_change (c.write_ram.ensures m.board (g.I.Card.lines m.inputs) (g.O.Card.lines m.outputs)) go_ret in
     let loan = ran.grows.loan in
-    did_end (λ (a : ℕ). change (Ram a) c.args.word (ret Done)) c.args.address there (grind arith) _ (Ok _) c.in_ok-address.ensures c.new-notes.ensures (short_change short_ret) ran c.counted.ensures (search rules)
+    did_end (λ (a : ℕ). change (Ram a) c.args.word (ret Done)) c.args.address there (grind arith) _ (Ok _) c.in_ok-address.ensures c.new-notes.ensures (short_change short_ret) (search rules) ran c.counted.ensures (search rules)

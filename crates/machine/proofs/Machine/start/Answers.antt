@@ -13,4 +13,4 @@ returns g c =
     let m = c.args.self.now.store in
     let ran = c.launch_task-end.ensures (g.I.Card.lines m.inputs) (g.O.Card.lines m.outputs) c.args.ram.now in
     let loan = ends_loan _ c.launch_task-end.result _ _ _ _ ran in
-    did_end (λ (t : ℕ). launch t c.args.address) c.args.task (ltb c.args.task 32) c.new.ensures _ c.launch_task-end.result c.in_ok-task.ensures c.new-notes.ensures (short_launch _ _) ran c.counted.ensures (search rules)
+    did_end (λ (t : ℕ). launch t c.args.address) c.args.task (ltb c.args.task 32) c.new.ensures _ c.launch_task-end.result c.in_ok-task.ensures c.new-notes.ensures (short_launch _ _) (search rules) ran c.counted.ensures (search rules)

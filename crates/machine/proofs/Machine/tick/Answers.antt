@@ -12,4 +12,4 @@ returns g c =
     let m = c.args.self.now.store in
     let ran = c.tick_tasks-answer.ensures (g.I.Card.lines m.inputs) (g.O.Card.lines m.outputs) c.args.ram.now in
     let loan = ran.grows.loan in
-    did_end (λ (x : Unit). ticks 32) tt true refl _ (Ok _) c.in_ok-admit.ensures c.new-notes.ensures short_tick ran c.counted.ensures (search rules)
+    did_end (λ (x : Unit). ticks 32) tt true refl _ (Ok _) c.in_ok-admit.ensures c.new-notes.ensures short_tick (search rules) ran c.counted.ensures (search rules)

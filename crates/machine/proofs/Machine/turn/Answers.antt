@@ -11,4 +11,4 @@ returns-in_err-task g c =
 pub returns : goal.returns
 returns g c =
     let loan = ends_loan _ c.cycle-end.result _ _ _ _ c.cycle-end.ensures in
-    did_end (cycle (length c.args.ram.now)) c.args.task (ltb c.args.task 32) c.new.ensures _ c.cycle-end.result c.in_ok-task.ensures c.new-notes.ensures (short_cycle _ _) c.cycle-end.ensures c.counted.ensures (search rules)
+    did_end (cycle (length c.args.ram.now)) c.args.task (ltb c.args.task 32) c.new.ensures _ c.cycle-end.result c.in_ok-task.ensures c.new-notes.ensures (short_cycle _ _) (search rules) c.cycle-end.ensures c.counted.ensures (search rules)
